@@ -50,7 +50,7 @@ ENUMERATIONS = {
     "nagsched_kind": ("Kind", "NAGSCHED_", "kind_number"),
     "nagsched_call_kind": ("CallKind", "NAGSCHED_CALL_", "c_call"),
     "nagsched_reply_kind": ("ReplyKind", "NAGSCHED_REPLY_", "c_reply"),
-    "nagsched_refusal_kind": ("RefusalKind", "NAGSCHED_REFUSAL_", "error_number", "c_fault"),
+    "nagsched_refusal_kind": ("RefusalKind", "NAGSCHED_REFUSAL_", "error_row", "c_fault"),
     "nagsched_part": ("Part", "NAGSCHED_PART_", "part_number"),
 }
 # The prefix in C of the names of a function of the definition.
@@ -106,7 +106,7 @@ def defined_numbers():
     text = "\n".join(definition.read_text(encoding="utf-8") for definition in DEFINITIONS)
     kinds = constants(KINDS)
     found = collections.defaultdict(dict)
-    value = r"(?:\w*_struct |record \{\s+kind = )?(\d+|[A-Z]\w+)"
+    value = r"(?:\w*_struct |row |record \{\s+kind = )?(\d+|[A-Z]\w+)"
     for function, name, number in re.findall(rf"^(\w+) \(?(?:reply\.Refused )?\w+\.(\w+)\b[^=\n]*\)? = {value}", text, re.M):
         if number.isdigit() or number in kinds:
             found[function][re.sub(r"(?<!^)(?=[A-Z])", "_", name).upper()] = int(kinds.get(number, number))
@@ -139,11 +139,11 @@ def symbol_names(arguments, kind):
 
 def check_symbols(harness, library):
     """Both libraries show exactly the names of the header, and need only the C library. The header is C++ too."""
-    wanted = sorted(re.findall(r"^uint32_t (nagsched_\w+)\(", HEADER.read_text(encoding="utf-8"), re.M))
+    wanted = sorted(re.findall(r"^(?:uint32_t|enum nagsched_result) (nagsched_\w+)\(", HEADER.read_text(encoding="utf-8"), re.M))
     harness.compare("the names of the archive", wanted, symbol_names(["--extern-only", library.archive], "T"))
     harness.compare("the names of the shared library", wanted, symbol_names(["--dynamic", library.shared], "T"))
     told = run_command("readelf", "--dynamic", library.shared).stdout.decode()
-    harness.compare("its soname", ["libnagsched.so.2"], re.findall(r"\(SONAME\).*\[(.*)\]", told))
+    harness.compare("its soname", ["libnagsched.so.3"], re.findall(r"\(SONAME\).*\[(.*)\]", told))
     harness.compare("what it needs", [], [name for name in re.findall(r"\(NEEDED\).*\[(.*)\]", told) if not name.startswith(("libc.", "ld-linux"))])
     installed = library.prefix / "include" / "nagsched.h"
     harness.compare("the header", HEADER.read_bytes(), installed.read_bytes())
@@ -151,6 +151,22 @@ def check_symbols(harness, library):
     harness.compare("the header in C++", (0, b""), (plus.returncode, plus.stderr))
     package = (library.prefix / "lib" / "pkgconfig" / "nagsched.pc").read_text(encoding="utf-8")
     harness.compare("nagsched.pc", str(library.prefix), re.search(r"^prefix=(.*)$", package, re.M)[1])
+
+
+# A handle of another kind, and a number of another enumeration: the compiler warns of each.
+MISTYPED = ("nagsched_take(&setup, 0, &reply)", "nagsched_report(&pass, 0, 1, NAGSCHED_STATE_DOWN, &reply)", "nagsched_close(&pass, &setup)",
+            "nagsched_renew(&book, 0, &book)", "nagsched_free(&setup)")
+
+
+def check_types(harness, folder):
+    """A call with right types compiles without a warning, and none with wrong types does."""
+    handles = "struct nagsched_setup setup = NAGSCHED_EMPTY; struct nagsched_pass pass = NAGSCHED_EMPTY; struct nagsched_book book = NAGSCHED_EMPTY;"
+    for call in ("nagsched_take(&pass, 0, &reply)", *MISTYPED):
+        source = folder / "types.c"
+        source.write_text(f"#include <nagsched.h>\nint main(void) {{ {handles} struct nagsched_reply reply;\n"
+                          f"(void)&setup, (void)&book; return (int){call}; }}\n", encoding="utf-8")
+        made = run_command("cc", "-std=c11", "-Wall", "-Wextra", "-fsyntax-only", f"-I{HEADER.parent}", source)
+        harness.compare(f"a warning at {call}", call in MISTYPED, bool(made.stderr))
 
 
 def split_history(history):
@@ -365,6 +381,7 @@ def main():
     with tempfile.TemporaryDirectory() as folder:
         library = Library(harness, pathlib.Path(folder))
         check_symbols(harness, library)
+        check_types(harness, library.folder)
         compare_numbers(harness)
         check_examples(harness, library)
         check_loops(harness, library)

@@ -29,13 +29,13 @@ enum { MOST_THREADS = 64, APART = 8, MINUTES_5 = 300000, GLANCES_A_CHECK = 20 };
 static const char *workload;
 static uint32_t objects;
 static uint64_t takes;
-static struct nagsched_handle passes[MOST_THREADS * APART];
+static struct nagsched_pass passes[MOST_THREADS * APART];
 static pthread_mutex_t mutex = PTHREAD_MUTEX_INITIALIZER;
 static struct { _Alignas(128) atomic_ullong next; _Alignas(128) atomic_ullong served; } ticket;
 static pthread_barrier_t all_there;
 
 struct thread {
-    _Alignas(128) struct nagsched_handle *pass;
+    _Alignas(128) struct nagsched_pass *pass;
     uint64_t takes, calls, sum, ns;
     pthread_t id;
 };
@@ -57,7 +57,7 @@ static uint64_t now_ns(void) {
 }
 
 /* A host that is never due, and its services, all due at 0. */
-static void read_setup(struct nagsched_handle *setup) {
+static void read_setup(struct nagsched_setup *setup) {
     struct nagsched_refusal refusal;
     char *document = malloc(objects * 80u + 300u), *end = document;
     if (!document) exit(1);
@@ -67,7 +67,7 @@ static void read_setup(struct nagsched_handle *setup) {
         end += sprintf(end, "%s{\"host\":\"h\",\"description\":\"s%06" PRIu32 "\",\"max_check_attempts\":3}", service == 1 ? "" : ",", service);
     }
     end += sprintf(end, "]}");
-    must(nagsched_read((uint8_t *)document, (size_t)(end - document), setup, &refusal));
+    must(nagsched_read(document, (size_t)(end - document), setup, &refusal));
     free(document);
 }
 
@@ -79,7 +79,7 @@ static void read_setup(struct nagsched_handle *setup) {
         (me)->calls++;                                                  \
         if (reply.kind == NAGSCHED_REPLY_TAKEN) {                       \
             const uint32_t object = reply.object;                       \
-            must(REPORT((me)->pass, object, reply.run, 0, &reply));   \
+            must(REPORT((me)->pass, object, reply.run, NAGSCHED_CODE_OK, &reply));   \
             (me)->calls++;                                              \
             (me)->sum = ((me)->sum ^ object) * 0x100000001B3u;          \
         }                                                               \
@@ -98,28 +98,28 @@ static uint64_t ticket_lock(void) {
     return mine;
 }
 
-static uint32_t ticket_take(struct nagsched_handle *pass, uint64_t now, struct nagsched_reply *reply) {
-    uint32_t status;
+static enum nagsched_result ticket_take(struct nagsched_pass *pass, uint64_t now, struct nagsched_reply *reply) {
+    enum nagsched_result status;
     uint64_t mine;
     LOCKED(mine = ticket_lock(), atomic_store_explicit(&ticket.served, mine + 1, memory_order_release), nagsched_take(pass, now, reply));
     return status;
 }
 
-static uint32_t ticket_report(struct nagsched_handle *pass, uint32_t object, uint64_t run, uint32_t code, struct nagsched_reply *reply) {
-    uint32_t status;
+static enum nagsched_result ticket_report(struct nagsched_pass *pass, uint32_t object, uint64_t run, enum nagsched_code code, struct nagsched_reply *reply) {
+    enum nagsched_result status;
     uint64_t mine;
     LOCKED(mine = ticket_lock(), atomic_store_explicit(&ticket.served, mine + 1, memory_order_release), nagsched_report(pass, object, run, code, reply));
     return status;
 }
 
-static uint32_t mutex_take(struct nagsched_handle *pass, uint64_t now, struct nagsched_reply *reply) {
-    uint32_t status;
+static enum nagsched_result mutex_take(struct nagsched_pass *pass, uint64_t now, struct nagsched_reply *reply) {
+    enum nagsched_result status;
     LOCKED(pthread_mutex_lock(&mutex), pthread_mutex_unlock(&mutex), nagsched_take(pass, now, reply));
     return status;
 }
 
-static uint32_t mutex_report(struct nagsched_handle *pass, uint32_t object, uint64_t run, uint32_t code, struct nagsched_reply *reply) {
-    uint32_t status;
+static enum nagsched_result mutex_report(struct nagsched_pass *pass, uint32_t object, uint64_t run, enum nagsched_code code, struct nagsched_reply *reply) {
+    enum nagsched_result status;
     LOCKED(pthread_mutex_lock(&mutex), pthread_mutex_unlock(&mutex), nagsched_report(pass, object, run, code, reply));
     return status;
 }
@@ -168,7 +168,7 @@ static void *work(void *given) {
 
 int main(int argc, char **argv) {
     static struct thread threads[MOST_THREADS + 2];
-    struct nagsched_handle setup = NAGSCHED_EMPTY;
+    struct nagsched_setup setup = NAGSCHED_EMPTY;
     uint64_t calls = 0, sum = 0, ns = 0;
     if (argc < 5) return 2;
     workload = argv[1], objects = (uint32_t)atoi(argv[3]), takes = strtoull(argv[4], NULL, 10);
@@ -179,11 +179,11 @@ int main(int argc, char **argv) {
     read_setup(&setup);
     if (is("entry")) {
         const size_t before = mallinfo2().hblkhd;
-        must(nagsched_open(&setup, 0, (size_t)takes, passes, 1));
+        must(nagsched_open(&setup.handle, 0, (size_t)takes, passes, 1));
         printf("%zu\n", (mallinfo2().hblkhd - before) / (size_t)takes);
         return 0;
     }
-    must(nagsched_open(&setup, 0, glances ? 0 : (size_t)takes * 2, passes, (size_t)(shared ? 1 : is("turns") ? APART + 1 : count * apart)));
+    must(nagsched_open(&setup.handle, 0, glances ? 0 : (size_t)takes * 2, passes, (size_t)(shared ? 1 : is("turns") ? APART + 1 : count * apart)));
     pthread_barrier_init(&all_there, NULL, (unsigned)count);
     for (int at = 0; at < count; at++) {
         threads[at].pass = &passes[shared ? 0 : at * apart];

@@ -15,7 +15,8 @@
 
 #define AT(type, field, offset) _Static_assert(offsetof(struct type, field) == (offset), #type "." #field)
 #define SIZE(type, bytes) _Static_assert(sizeof(struct type) == (bytes), #type)
-SIZE(nagsched_handle, 16); SIZE(nagsched_refusal, 24); AT(nagsched_refusal, has_index, 8); AT(nagsched_refusal, index, 16);
+SIZE(nagsched_handle, 16); SIZE(nagsched_setup, 16); SIZE(nagsched_pass, 16); SIZE(nagsched_book, 16); SIZE(nagsched_history, 16);
+SIZE(nagsched_refusal, 24); AT(nagsched_refusal, has_index, 8); AT(nagsched_refusal, index, 16);
 SIZE(nagsched_standing, 24); AT(nagsched_standing, attempt, 12); AT(nagsched_standing, flapping, 20);
 SIZE(nagsched_call, 32); AT(nagsched_call, run, 8); AT(nagsched_call, moment, 16); AT(nagsched_call, code, 24); AT(nagsched_call, flag, 28);
 SIZE(nagsched_reply, 56); AT(nagsched_reply, run, 8); AT(nagsched_reply, time, 16); AT(nagsched_reply, has_time, 24);
@@ -31,7 +32,7 @@ static const char ROOM[] = "{\"options\":{\"service_inter_check_delay_method\":\
                            "{\"host\":\"room\",\"description\":\"rack\",\"check_interval\":1,\"max_check_attempts\":3}]}";
 
 struct thread {
-    struct nagsched_handle *pass;
+    struct nagsched_pass *pass;
     uint32_t object;   /* the operator's: the thermometer at the door */
     uint64_t minutes;
     pthread_t id;
@@ -45,7 +46,7 @@ static void must(uint32_t status, const char *what) {
 }
 
 /* The plugin: a model of a check that takes its time. No one waits for it, since no turn is held meanwhile. */
-static uint32_t check(uint64_t run) {
+static enum nagsched_code check(uint64_t run) {
     return run % 5 < 3 ? NAGSCHED_CODE_OK : NAGSCHED_CODE_CRITICAL;
 }
 
@@ -80,10 +81,10 @@ static void *operate(void *given) {
 }
 
 /* Writes a call as `nagsched run` reads it. A name with a quote or a backslash in it would need JSON's escapes. */
-static void write_call(const struct nagsched_handle *book, const struct nagsched_call *call) {
-    uint8_t name[512];
+static void write_call(const struct nagsched_book *book, const struct nagsched_call *call) {
+    char name[512];
     size_t length = 0;
-    if (call->kind != NAGSCHED_CALL_TAKE) must(nagsched_name(book, call->object, name, sizeof name, &length), "name");
+    if (call->kind != NAGSCHED_CALL_TAKE) must(nagsched_name(&book->handle, call->object, name, sizeof name, &length), "name");
     switch (call->kind) {
     case NAGSCHED_CALL_TAKE: printf("[\"take\",%" PRIu64 "]", call->moment); break;
     case NAGSCHED_CALL_REPORT: printf("[\"report\",\"%.*s\",%" PRIu64 ",%" PRIu32 "]", (int)length, name, call->run, call->code); break;
@@ -97,40 +98,42 @@ static void write_call(const struct nagsched_handle *book, const struct nagsched
 }
 
 /* Writes the history: each call, followed by its caller and its answer. */
-static void write_history(const struct nagsched_handle *book) {
+static void write_history(const struct nagsched_book *book) {
     uint64_t count;
-    uint8_t text[1024];
+    char text[1024];
     size_t length;
     struct nagsched_entry entry;
-    must(nagsched_entries(book, &count), "entries");
+    must(nagsched_entries(&book->handle, &count), "entries");
     for (uint64_t index = 0; index < count; index++) {
-        must(nagsched_entry(book, index, &entry), "entry");
+        must(nagsched_entry(&book->handle, index, &entry), "entry");
         write_call(book, &entry.call);
-        must(nagsched_entry_text(book, &entry, text, sizeof text, &length), "entry_text");
+        must(nagsched_entry_text(&book->handle, &entry, text, sizeof text, &length), "entry_text");
         printf("\t%.*s", (int)length, text);
     }
 }
 
 int main(int argc, char **argv) {
     const uint64_t minutes = argc > 1 ? strtoull(argv[1], NULL, 10) : 3;
-    struct nagsched_handle setup = NAGSCHED_EMPTY, passes[PASSES];
+    struct nagsched_setup setup = NAGSCHED_EMPTY;
+    struct nagsched_pass passes[PASSES];
+    struct nagsched_book book = NAGSCHED_EMPTY;
     struct nagsched_refusal refusal;
     struct thread threads[PASSES];
     uint32_t door;
     if (nagsched_version() != NAGSCHED_VERSION) return 1;
     memset(passes, 0, sizeof passes);
-    must(nagsched_read((const uint8_t *)ROOM, strlen(ROOM), &setup, &refusal), "read");
-    must(nagsched_number(&setup, (const uint8_t *)"room;door", strlen("room;door"), &door), "number");
-    must(nagsched_open(&setup, 0, 1000, passes, PASSES), "open");
+    must(nagsched_read(ROOM, strlen(ROOM), &setup, &refusal), "read");
+    must(nagsched_number(&setup.handle, "room;door", strlen("room;door"), &door), "number");
+    must(nagsched_open(&setup.handle, 0, 1000, passes, PASSES), "open");
     for (size_t at = 0; at < PASSES; at++) {
         threads[at] = (struct thread){.pass = &passes[at], .object = door, .minutes = minutes};
         if (pthread_create(&threads[at].id, NULL, at < WORKERS ? work : operate, &threads[at]) != 0) return 1;
     }
     for (size_t at = 0; at < PASSES; at++) pthread_join(threads[at].id, NULL);
     for (size_t at = 1; at < PASSES; at++) must(nagsched_gather(&passes[0], &passes[at]), "gather");
-    must(nagsched_close(&passes[0]), "close");
+    must(nagsched_close(&passes[0], &book), "close");
     puts(ROOM);
-    write_history(&passes[0]);
-    must(nagsched_free(&passes[0]), "free");
+    write_history(&book);
+    must(nagsched_free(&book.handle), "free");
     return 0;
 }

@@ -28,11 +28,10 @@ extern char **environ;
 enum { WORKERS = 4, ROOM = 10000, TEXT = 1024, LIMIT_MS = 5000, GENERATION_MS = 2000, AT_LIMIT_MS = 1000 };
 
 struct monitor {
-    struct nagsched_handle passes[2][WORKERS];  /* of the desk: each is opened from the book that the one before becomes */
-    size_t generation;                          /* the desk is that of passes[generation % 2] */
-    pthread_rwlock_t desk;                      /* of both: held for reading during a call, and for writing while the desk is closed */
-    pthread_mutex_t lock;                       /* of the following members */
-    pthread_cond_t news;                        /* a result came, or the end */
+    struct nagsched_pass passes[WORKERS]; /* of the desk that is open now */
+    pthread_rwlock_t desk;                /* of the passes: held for reading during a call, and for writing while the desk is closed */
+    pthread_mutex_t lock;                 /* of the following members */
+    pthread_cond_t news;                  /* a result came, or the end */
     uint64_t results;
     int is_ended;
     const char *command;
@@ -43,11 +42,6 @@ struct worker {
     size_t place;
     pthread_t thread;
 };
-
-/* The passes of the desk that is open now. */
-static struct nagsched_handle *passes(struct monitor *monitor) {
-    return monitor->passes[monitor->generation % 2];
-}
 
 static void must(uint32_t status, const char *what) {
     if (status == NAGSCHED_OK) return;
@@ -99,20 +93,20 @@ static void check(const struct worker *me, const struct nagsched_reply *taken) {
     struct monitor *monitor = me->monitor;
     struct nagsched_call call = {.kind = NAGSCHED_CALL_REPORT, .object = taken->object, .run = taken->run};
     struct nagsched_reply reply;
-    uint8_t name[TEXT], text[TEXT];
+    char name[TEXT], text[TEXT];
     size_t length;
     pthread_rwlock_rdlock(&monitor->desk);
-    must(nagsched_name(&passes(monitor)[me->place], taken->object, name, sizeof name - 1, &length), "name");
+    must(nagsched_name(&monitor->passes[me->place].handle, taken->object, name, sizeof name - 1, &length), "name");
     pthread_rwlock_unlock(&monitor->desk);
     name[length] = '\0';
-    int code = run_plugin(monitor, (const char *)name); /* nothing is held meanwhile: the desk may be closed and opened again */
+    int code = run_plugin(monitor, name); /* nothing is held meanwhile: the desk may be closed and opened again */
     pthread_rwlock_rdlock(&monitor->desk);
-    struct nagsched_handle *pass = &passes(monitor)[me->place];
+    struct nagsched_pass *pass = &monitor->passes[me->place];
     if (code < 0) {
         must(nagsched_abandon(pass, taken->object, taken->run, now(), &reply), "abandon");
     } else {
-        must(nagsched_report(pass, taken->object, taken->run, (uint32_t)code, &reply), "report");
-        must(nagsched_reply_text(pass, &call, &reply, text, sizeof text, &length), "reply_text");
+        must(nagsched_report(pass, taken->object, taken->run, (enum nagsched_code)code, &reply), "report");
+        must(nagsched_reply_text(&pass->handle, &call, &reply, text, sizeof text, &length), "reply_text");
         printf("%.*s", (int)length, text);
     }
     pthread_rwlock_unlock(&monitor->desk);
@@ -149,7 +143,7 @@ static void *work(void *given) {
         if (is_ended) return NULL;
         const uint64_t moment = now();
         pthread_rwlock_rdlock(&monitor->desk);
-        must(nagsched_take(&passes(monitor)[me->place], moment, &reply), "take");
+        must(nagsched_take(&monitor->passes[me->place], moment, &reply), "take");
         pthread_rwlock_unlock(&monitor->desk);
         if (reply.kind == NAGSCHED_REPLY_TAKEN) {
             check(me, &reply);
@@ -169,10 +163,10 @@ static void *work(void *given) {
 
 /* ---- saving and resuming */
 
-static uint8_t *read_file(const char *path, size_t *length) {
+static char *read_file(const char *path, size_t *length) {
     FILE *file = fopen(path, "rb");
     if (file == NULL) return NULL;
-    uint8_t *bytes = NULL;
+    char *bytes = NULL;
     size_t room = 0;
     for (*length = 0; !feof(file);) {
         if (*length == room && (bytes = realloc(bytes, room = 2 * room + 65536)) == NULL) exit(1);
@@ -184,12 +178,12 @@ static uint8_t *read_file(const char *path, size_t *length) {
 }
 
 /* Writes the state of the book: a new file replaces the old one, so that one of the two is always whole. */
-static void save(const struct nagsched_handle *book, const char *path) {
+static void save(const struct nagsched_book *book, const char *path) {
     char fresh[4096];
     size_t length = 0;
-    uint8_t nothing;
+    char nothing;
     if (nagsched_save(book, &nothing, 0, &length) != NAGSCHED_WRONG || length == 0) exit(1); /* its length first */
-    uint8_t *text = malloc(length);
+    char *text = malloc(length);
     if (text == NULL) exit(1);
     must(nagsched_save(book, text, length, &length), "save");
     snprintf(fresh, sizeof fresh, "%s.new", path);
@@ -204,22 +198,22 @@ static void save(const struct nagsched_handle *book, const char *path) {
 
 /* Closes the desk, saves, frees the entries, and opens it again. Calls wait meanwhile, plugins don't. */
 static void begin_generation(struct monitor *monitor, const char *path) {
-    struct nagsched_handle history = NAGSCHED_EMPTY;
+    struct nagsched_book book = NAGSCHED_EMPTY;
+    struct nagsched_history history = NAGSCHED_EMPTY;
     pthread_rwlock_wrlock(&monitor->desk);
-    struct nagsched_handle *before = passes(monitor);
-    for (size_t at = 1; at < WORKERS; at++) must(nagsched_gather(&before[0], &before[at]), "gather");
-    must(nagsched_close(&before[0]), "close");
-    save(&before[0], path);
-    must(nagsched_renew(&before[0], ROOM, &history), "renew");
-    must(nagsched_free(&history), "free"); /* a program that stores histories writes its entries first */
-    monitor->generation++;
-    must(nagsched_open(&before[0], 0, 0, passes(monitor), WORKERS), "open");
+    struct nagsched_pass *passes = monitor->passes;
+    for (size_t at = 1; at < WORKERS; at++) must(nagsched_gather(&passes[0], &passes[at]), "gather");
+    must(nagsched_close(&passes[0], &book), "close");
+    save(&book, path);
+    must(nagsched_renew(&book, ROOM, &history), "renew");
+    must(nagsched_free(&history.handle), "free"); /* a program that stores histories writes its entries first */
+    must(nagsched_open(&book.handle, 0, 0, passes, WORKERS), "open");
     pthread_rwlock_unlock(&monitor->desk);
 }
 
 /* Prints why a setup or a state is refused, and ends. */
 static void refused(const char *path, const struct nagsched_refusal *refusal) {
-    uint8_t text[TEXT];
+    char text[TEXT];
     size_t length;
     must(nagsched_refusal_text(refusal, text, sizeof text, &length), "refusal_text");
     fprintf(stderr, "loop: %s: %.*s", path, (int)length, text);
@@ -228,50 +222,51 @@ static void refused(const char *path, const struct nagsched_refusal *refusal) {
 
 /* Opens the desk: from the saved state, if there is one. Checks that were running then are abandoned: nobody runs their plugins any more. */
 static void open_desk(struct monitor *monitor, const char *setup_path, const char *state_path) {
-    struct nagsched_handle setup = NAGSCHED_EMPTY, book = NAGSCHED_EMPTY;
+    struct nagsched_setup setup = NAGSCHED_EMPTY;
+    struct nagsched_book book = NAGSCHED_EMPTY;
     struct nagsched_refusal refusal;
     struct nagsched_reply reply;
     uint32_t objects, hosts;
     size_t bytes;
-    uint8_t *document = read_file(setup_path, &bytes);
-    uint32_t status = document == NULL ? NAGSCHED_MISSING : nagsched_read(document, bytes, &setup, &refusal);
+    char *document = read_file(setup_path, &bytes);
+    enum nagsched_result status = document == NULL ? NAGSCHED_MISSING : nagsched_read(document, bytes, &setup, &refusal);
     if (status == NAGSCHED_REFUSED) refused(setup_path, &refusal);
     must(status, setup_path);
     free(document);
-    uint8_t *state = read_file(state_path, &bytes);
+    char *state = read_file(state_path, &bytes);
     if (state == NULL) {
-        must(nagsched_open(&setup, now(), ROOM, passes(monitor), WORKERS), "open");
+        must(nagsched_open(&setup.handle, now(), ROOM, monitor->passes, WORKERS), "open");
         return;
     }
     status = nagsched_resume(&setup, state, bytes, now(), ROOM, &book, &refusal);
     if (status == NAGSCHED_REFUSED) refused(state_path, &refusal);
     must(status, "resume");
     free(state);
-    must(nagsched_count(&book, &objects, &hosts), "count");
+    must(nagsched_count(&book.handle, &objects, &hosts), "count");
     uint64_t *runs = calloc(objects + 1, sizeof *runs), start;
     if (runs == NULL) exit(1);
     for (uint32_t object = 0; object < objects; object++) {
         status = nagsched_running(&book, object, &runs[object], &start);
         if (status != NAGSCHED_MISSING) must(status, "running");
     }
-    must(nagsched_open(&book, 0, 0, passes(monitor), WORKERS), "open");
+    must(nagsched_open(&book.handle, 0, 0, monitor->passes, WORKERS), "open");
     for (uint32_t object = 0; object < objects; object++) {
-        if (runs[object] != 0) must(nagsched_abandon(&passes(monitor)[0], object, runs[object], now(), &reply), "abandon");
+        if (runs[object] != 0) must(nagsched_abandon(&monitor->passes[0], object, runs[object], now(), &reply), "abandon");
     }
     free(runs);
 }
 
 /* Prints the standing of each object. */
-static void print_standings(struct nagsched_handle *pass) {
+static void print_standings(struct nagsched_pass *pass) {
     struct nagsched_reply reply;
     uint32_t objects, hosts;
-    uint8_t text[TEXT];
+    char text[TEXT];
     size_t length;
-    must(nagsched_count(pass, &objects, &hosts), "count");
+    must(nagsched_count(&pass->handle, &objects, &hosts), "count");
     for (uint32_t object = 0; object < objects; object++) {
         const struct nagsched_call call = {.kind = NAGSCHED_CALL_STATUS, .object = object};
         must(nagsched_status(pass, object, &reply), "status");
-        must(nagsched_reply_text(pass, &call, &reply, text, sizeof text, &length), "reply_text");
+        must(nagsched_reply_text(&pass->handle, &call, &reply, text, sizeof text, &length), "reply_text");
         printf("at the end %.*s", (int)length, text);
     }
 }
@@ -300,8 +295,8 @@ int main(int argc, char **argv) {
     pthread_cond_broadcast(&monitor.news);
     pthread_mutex_unlock(&monitor.lock);
     for (size_t at = 0; at < WORKERS; at++) pthread_join(workers[at].thread, NULL);
-    print_standings(&passes(&monitor)[0]);
+    print_standings(&monitor.passes[0]);
     begin_generation(&monitor, argv[2]);
-    for (size_t at = 0; at < WORKERS; at++) must(nagsched_free(&passes(&monitor)[at]), "free");
+    for (size_t at = 0; at < WORKERS; at++) must(nagsched_free(&monitor.passes[at].handle), "free");
     return 0;
 }

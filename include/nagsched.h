@@ -4,14 +4,16 @@
  * calls: take, report, abandon, reschedule, enable, status. The replies are those that one thread would get
  * if it made all calls one after another. The desk stores all calls and replies, in that order.
  *
- *     struct nagsched_handle setup = NAGSCHED_EMPTY, passes[2] = {NAGSCHED_EMPTY, NAGSCHED_EMPTY};
+ *     struct nagsched_setup setup = NAGSCHED_EMPTY;
+ *     struct nagsched_pass passes[2] = {NAGSCHED_EMPTY, NAGSCHED_EMPTY};
+ *     struct nagsched_book book = NAGSCHED_EMPTY;
  *     struct nagsched_refusal refusal;
  *     nagsched_read(document, bytes, &setup, &refusal);     REFUSED: nagsched_refusal_text says why
- *     nagsched_open(&setup, now, 1000, passes, 2);          a desk, and a pass for each of two threads
+ *     nagsched_open(&setup.handle, now, 1000, passes, 2);   a desk, and a pass for each of two threads
  *     nagsched_take(&passes[0], now, &reply);               in a thread, which then handles the reply
  *     nagsched_gather(&passes[0], &passes[1]);              when the threads have ended
- *     nagsched_close(&passes[0]);                           the pass becomes a book, with the history
- *     nagsched_free(&passes[0]);
+ *     nagsched_close(&passes[0], &book);                    a book, with the history
+ *     nagsched_free(&book.handle);
  *
  * The history grows by an entry of 56 bytes with each call, even with a take whose reply is IDLE. So a program that runs for months repeats these
  * steps: let no call be made for a moment, gather, close, save, renew the book (nagsched_renew hands the entries out), and open a desk on it. The
@@ -57,7 +59,7 @@ extern "C" {
 #endif
 
 /* The number of this interface. Compare it once with nagsched_version(): if they differ, the header and the library don't belong together. */
-#define NAGSCHED_VERSION 2u
+#define NAGSCHED_VERSION 3u
 
 /* Refers to a setup, a pass, a book or a history. All zeros means empty. */
 struct nagsched_handle {
@@ -65,7 +67,13 @@ struct nagsched_handle {
     uint64_t full;
 };
 
-#define NAGSCHED_EMPTY {0, 0}
+/* A handle of each kind. A function that takes more than one kind gets the handle inside: &setup.handle. */
+struct nagsched_setup { struct nagsched_handle handle; };
+struct nagsched_pass { struct nagsched_handle handle; };
+struct nagsched_book { struct nagsched_handle handle; };
+struct nagsched_history { struct nagsched_handle handle; };
+
+#define NAGSCHED_EMPTY {{0, 0}}
 
 /* The statuses. After NAGSCHED_SPENT, NAGSCHED_WRONG and NAGSCHED_MISSING everything is as it was before the call, except that a length is
  * written if a buffer is too small. After NAGSCHED_REFUSED only the refusal was written. After NAGSCHED_NO_MEMORY nothing was changed
@@ -133,11 +141,11 @@ enum nagsched_reply_kind {
     NAGSCHED_REPLY_STANDING = 4,       /* standing, changed, time: the next check */
     NAGSCHED_REPLY_FREED = 5,          /* the run ended without a result; time: the next check */
     NAGSCHED_REPLY_DONE = 6,
-    NAGSCHED_REPLY_UNKNOWN_OBJECT = 7, /* this and the following: the call was refused, and has changed nothing */
-    NAGSCHED_REPLY_TIME_RANGE = 8,
-    NAGSCHED_REPLY_NOT_RUNNING = 9,
-    NAGSCHED_REPLY_WRONG_RUN = 10,
-    NAGSCHED_REPLY_RUNS_SPENT = 11
+    NAGSCHED_REPLY_UNKNOWN_OBJECT = 101, /* from 100 on: the call was refused, and has changed nothing */
+    NAGSCHED_REPLY_TIME_RANGE = 102,
+    NAGSCHED_REPLY_NOT_RUNNING = 103,
+    NAGSCHED_REPLY_WRONG_RUN = 104,
+    NAGSCHED_REPLY_RUNS_SPENT = 105
 };
 
 /* The reply to a call. A field that its kind doesn't name is 0. */
@@ -158,27 +166,28 @@ struct nagsched_entry {
     struct nagsched_reply reply;
 };
 
+/* The number of a refusal is that of its line: 205 for L5, 304 for K4. New refusals get new numbers in the same hundred. */
 enum nagsched_refusal_kind {
-    NAGSCHED_REFUSAL_TOO_LONG = 0,
-    NAGSCHED_REFUSAL_NOT_JSON = 1,
-    NAGSCHED_REFUSAL_SHAPE = 2,
-    NAGSCHED_REFUSAL_TOO_MANY = 3,
-    NAGSCHED_REFUSAL_BAD_NAME = 4,
-    NAGSCHED_REFUSAL_DUPLICATE = 5,
-    NAGSCHED_REFUSAL_UNKNOWN_HOST = 6,
-    NAGSCHED_REFUSAL_UNKNOWN_MASTER = 7,
-    NAGSCHED_REFUSAL_RANGE = 8,
-    NAGSCHED_REFUSAL_DEPENDENCY_CYCLE = 9,
-    NAGSCHED_REFUSAL_PARENT_CYCLE = 10,
-    NAGSCHED_REFUSAL_SAVED_TOO_LONG = 11, /* this and the following: the text is no saved state */
-    NAGSCHED_REFUSAL_SAVED_NOT_JSON = 12,
-    NAGSCHED_REFUSAL_SAVED_VERSION = 13,
-    NAGSCHED_REFUSAL_SAVED_SHAPE = 14,
-    NAGSCHED_REFUSAL_SAVED_TOO_MANY = 15,
-    NAGSCHED_REFUSAL_SAVED_BAD_NAME = 16,
-    NAGSCHED_REFUSAL_SAVED_DUPLICATE = 17,
-    NAGSCHED_REFUSAL_SAVED_RANGE = 18,
-    NAGSCHED_REFUSAL_SAVED_UNLAWFUL = 19
+    NAGSCHED_REFUSAL_NOT_JSON = 201, /* from 200 on: the document is no setup */
+    NAGSCHED_REFUSAL_SHAPE = 202,
+    NAGSCHED_REFUSAL_TOO_MANY = 203,
+    NAGSCHED_REFUSAL_BAD_NAME = 204,
+    NAGSCHED_REFUSAL_DUPLICATE = 205,
+    NAGSCHED_REFUSAL_UNKNOWN_HOST = 206,
+    NAGSCHED_REFUSAL_UNKNOWN_MASTER = 207,
+    NAGSCHED_REFUSAL_RANGE = 208,
+    NAGSCHED_REFUSAL_DEPENDENCY_CYCLE = 209,
+    NAGSCHED_REFUSAL_PARENT_CYCLE = 210,
+    NAGSCHED_REFUSAL_TOO_LONG = 212,
+    NAGSCHED_REFUSAL_SAVED_TOO_LONG = 301, /* from 300 on: the text is no saved state */
+    NAGSCHED_REFUSAL_SAVED_NOT_JSON = 302,
+    NAGSCHED_REFUSAL_SAVED_VERSION = 303,
+    NAGSCHED_REFUSAL_SAVED_SHAPE = 304,
+    NAGSCHED_REFUSAL_SAVED_TOO_MANY = 305,
+    NAGSCHED_REFUSAL_SAVED_BAD_NAME = 306,
+    NAGSCHED_REFUSAL_SAVED_DUPLICATE = 307,
+    NAGSCHED_REFUSAL_SAVED_RANGE = 308,
+    NAGSCHED_REFUSAL_SAVED_UNLAWFUL = 309
 };
 
 enum nagsched_part {
@@ -208,7 +217,7 @@ uint32_t nagsched_version(void);
  * OK. REFUSED: the document breaks a rule. refusal has the first fault, in the order of docs/errors.md, and nagsched_refusal_text its
  * line. The program's `nagsched check` explains it in words. NO_MEMORY. WRONG: the handle isn't empty. Only REFUSED writes refusal.
  * Allocates; takes longer with more bytes. */
-uint32_t nagsched_read(const uint8_t *document, size_t bytes, struct nagsched_handle *setup, struct nagsched_refusal *refusal);
+enum nagsched_result nagsched_read(const char *document, size_t bytes, struct nagsched_setup *setup, struct nagsched_refusal *refusal);
 
 /* The lines that the program nagsched writes, each with its line feed: for a refusal, for the reply to a call as `run` writes it, and for an
  * entry as `drill` writes it. They go into room bytes at text, and length is the length of the whole line. 1,024 bytes are enough for each.
@@ -217,10 +226,10 @@ uint32_t nagsched_read(const uint8_t *document, size_t bytes, struct nagsched_ha
  *
  * OK. WRONG, with length: the line is longer than room, and nothing else is written. WRONG: a struct that no function returns. NO_MEMORY.
  * They allocate memory, and free it before they return. */
-uint32_t nagsched_refusal_text(const struct nagsched_refusal *refusal, uint8_t *text, size_t room, size_t *length);
-uint32_t nagsched_reply_text(const struct nagsched_handle *named, const struct nagsched_call *call, const struct nagsched_reply *reply, uint8_t *text,
+enum nagsched_result nagsched_refusal_text(const struct nagsched_refusal *refusal, char *text, size_t room, size_t *length);
+enum nagsched_result nagsched_reply_text(const struct nagsched_handle *named, const struct nagsched_call *call, const struct nagsched_reply *reply, char *text,
                              size_t room, size_t *length);
-uint32_t nagsched_entry_text(const struct nagsched_handle *named, const struct nagsched_entry *entry, uint8_t *text, size_t room, size_t *length);
+enum nagsched_result nagsched_entry_text(const struct nagsched_handle *named, const struct nagsched_entry *entry, char *text, size_t room, size_t *length);
 
 /* Objects by number, from 0: hosts first, in the order of their names' bytes, then services, in the order of their hosts' names and then of
  * their descriptions. A full name is the name of a host, or HOST;DESCRIPTION of a service: at most 511 bytes of UTF-8. named is a setup, a
@@ -232,10 +241,10 @@ uint32_t nagsched_entry_text(const struct nagsched_handle *named, const struct n
  *     nagsched_host_of    the host of a service. MISSING: the object is a host
  *
  * OK. WRONG: the handle has no setup, pass or book, or no object has this number. They allocate nothing. */
-uint32_t nagsched_count(const struct nagsched_handle *named, uint32_t *objects, uint32_t *hosts);
-uint32_t nagsched_number(const struct nagsched_handle *named, const uint8_t *name, size_t bytes, uint32_t *number);
-uint32_t nagsched_name(const struct nagsched_handle *named, uint32_t number, uint8_t *name, size_t room, size_t *length);
-uint32_t nagsched_host_of(const struct nagsched_handle *named, uint32_t number, uint32_t *host);
+enum nagsched_result nagsched_count(const struct nagsched_handle *named, uint32_t *objects, uint32_t *hosts);
+enum nagsched_result nagsched_number(const struct nagsched_handle *named, const char *name, size_t bytes, uint32_t *number);
+enum nagsched_result nagsched_name(const struct nagsched_handle *named, uint32_t number, char *name, size_t room, size_t *length);
+enum nagsched_result nagsched_host_of(const struct nagsched_handle *named, uint32_t number, uint32_t *host);
 
 /* Opens a desk: a scheduler for several threads, one for each pass. Each of count handles, 1 to 1,024 empty ones in an array, gets a pass,
  * whose number is its place in the array. The handle of the setup or book is empty afterwards.
@@ -249,8 +258,8 @@ uint32_t nagsched_host_of(const struct nagsched_handle *named, uint32_t number, 
  * OK. NO_MEMORY: all handles are as they were. WRONG: a handle of another kind or a pass handle that isn't empty, a book with entries, or a
  * number out of its limits. Both allocate. (Proofs don't exclude one case, which no machine can reach: a 63-bit count of the desk's owners is
  * full. Then setup_or_book would be the desk's only pass.) */
-uint32_t nagsched_open(struct nagsched_handle *setup_or_book, uint64_t start, size_t room, struct nagsched_handle *passes, size_t count);
-uint32_t nagsched_open_with(struct nagsched_handle *setup_or_book, uint64_t start, size_t room, uint64_t calls, struct nagsched_handle *passes,
+enum nagsched_result nagsched_open(struct nagsched_handle *setup_or_book, uint64_t start, size_t room, struct nagsched_pass *passes, size_t count);
+enum nagsched_result nagsched_open_with(struct nagsched_handle *setup_or_book, uint64_t start, size_t room, uint64_t calls, struct nagsched_pass *passes,
                             size_t count);
 
 /* The six calls, one try each; nagsched_take and so on below try until the turn has come.
@@ -276,44 +285,46 @@ uint32_t nagsched_open_with(struct nagsched_handle *setup_or_book, uint64_t star
  * try again (meanwhile any other call with this pass is WRONG). SPENT: the pass has no call left. NO_MEMORY: the call wasn't made, and is
  * counted (nagsched_refused). WRONG: the handle has no pass, a code is above 3, or a flag is neither 0 nor 1. A number without an object
  * gets the reply UNKNOWN_OBJECT. A try never waits. It allocates only if the history has reached its room. */
-uint32_t nagsched_try_take(struct nagsched_handle *pass, uint64_t now, struct nagsched_reply *reply);
-uint32_t nagsched_try_report(struct nagsched_handle *pass, uint32_t object, uint64_t run, uint32_t code, struct nagsched_reply *reply);
-uint32_t nagsched_try_abandon(struct nagsched_handle *pass, uint32_t object, uint64_t run, uint64_t now, struct nagsched_reply *reply);
-uint32_t nagsched_try_reschedule(struct nagsched_handle *pass, uint32_t object, uint64_t time, uint32_t forced, struct nagsched_reply *reply);
-uint32_t nagsched_try_enable(struct nagsched_handle *pass, uint32_t object, uint32_t on, struct nagsched_reply *reply);
-uint32_t nagsched_try_status(struct nagsched_handle *pass, uint32_t object, struct nagsched_reply *reply);
+enum nagsched_result nagsched_try_take(struct nagsched_pass *pass, uint64_t now, struct nagsched_reply *reply);
+enum nagsched_result nagsched_try_report(struct nagsched_pass *pass, uint32_t object, uint64_t run, enum nagsched_code code, struct nagsched_reply *reply);
+enum nagsched_result nagsched_try_abandon(struct nagsched_pass *pass, uint32_t object, uint64_t run, uint64_t now, struct nagsched_reply *reply);
+enum nagsched_result nagsched_try_reschedule(struct nagsched_pass *pass, uint32_t object, uint64_t time, uint32_t forced, struct nagsched_reply *reply);
+enum nagsched_result nagsched_try_enable(struct nagsched_pass *pass, uint32_t object, uint32_t on, struct nagsched_reply *reply);
+enum nagsched_result nagsched_try_status(struct nagsched_pass *pass, uint32_t object, struct nagsched_reply *reply);
 
 /* Reads an object's standing without a turn: it never waits for another call. The standing is that after some history that begins with all
  * that this pass has seen, so that glances never go back. A pass sees its own reports.
  *
  * OK. WRONG: the handle has no pass, or one that waits, or no object has this number. Allocates nothing; one load of memory. */
-uint32_t nagsched_glance(struct nagsched_handle *pass, uint32_t object, struct nagsched_standing *standing);
+enum nagsched_result nagsched_glance(struct nagsched_pass *pass, uint32_t object, struct nagsched_standing *standing);
 
 /* Joins another pass of the same desk to this one, in any order of their numbers, when the other's thread makes no more calls. The other handle
  * is empty afterwards. This pass keeps its own number.
  *
  * OK. WRONG: a handle has no pass, or one that waits, or the passes are of two desks. Allocates nothing. */
-uint32_t nagsched_gather(struct nagsched_handle *pass, struct nagsched_handle *other);
+enum nagsched_result nagsched_gather(struct nagsched_pass *pass, struct nagsched_pass *other);
 
-/* Ends the desk: the pass in which all others are gathered becomes the desk's book, in the same handle.
+/* Ends the desk: the pass in which all others are gathered becomes the desk's book, in an empty handle. The pass's handle is empty
+ * afterwards.
  *
- * OK. MISSING: other passes have to be gathered first. WRONG: the handle has no pass, or one that waits. Allocates nothing. */
-uint32_t nagsched_close(struct nagsched_handle *pass);
+ * OK. MISSING: other passes have to be gathered first. WRONG: the handle has no pass, or one that waits, or the book's isn't empty. Allocates
+ * nothing. */
+enum nagsched_result nagsched_close(struct nagsched_pass *pass, struct nagsched_book *book);
 
 /* The history: the number of entries of a book or an old history, and the entry with an index from 0, in the order in which the calls were
  * made. nagsched_refused: the number of calls that a book didn't make because it was out of memory.
  *
  * OK. WRONG: the handle has neither, or no entry has this index. They allocate nothing. */
-uint32_t nagsched_entries(const struct nagsched_handle *book_or_history, uint64_t *count);
-uint32_t nagsched_entry(const struct nagsched_handle *book_or_history, uint64_t index, struct nagsched_entry *entry);
-uint32_t nagsched_refused(const struct nagsched_handle *book, uint64_t *count);
+enum nagsched_result nagsched_entries(const struct nagsched_handle *book_or_history, uint64_t *count);
+enum nagsched_result nagsched_entry(const struct nagsched_handle *book_or_history, uint64_t index, struct nagsched_entry *entry);
+enum nagsched_result nagsched_refused(const struct nagsched_book *book, uint64_t *count);
 
 /* Moves the entries of a book into the empty handle history. The book then has no entries and its scheduler is as it was. It has memory for
  * room entries at once, and nagsched_open opens a desk on it.
  *
  * OK. NO_MEMORY: the book still has its entries. WRONG: the handle has no book, or history isn't empty. Allocates room entries of 56 bytes, and
  * takes no longer with more entries. */
-uint32_t nagsched_renew(struct nagsched_handle *book, size_t room, struct nagsched_handle *history);
+enum nagsched_result nagsched_renew(struct nagsched_book *book, size_t room, struct nagsched_history *history);
 
 /* Writes the saved state of a book's scheduler, for nagsched_resume: all its knowledge, without its setup and its entries. A program saves
  * a book when it ends, and perhaps at each renewal, and stores the text with its own files.
@@ -325,7 +336,7 @@ uint32_t nagsched_renew(struct nagsched_handle *book, size_t room, struct nagsch
  * room 0 to learn the length. WRONG: the handle has no book (close the desk first). NO_MEMORY: nothing was written.
  * Allocates memory for any room, and frees it before it returns; takes longer with more objects. Any thread, also while others read
  * the book by functions that take it as const. */
-uint32_t nagsched_save(const struct nagsched_handle *book, uint8_t *text, size_t room, size_t *length);
+enum nagsched_result nagsched_save(const struct nagsched_book *book, char *text, size_t room, size_t *length);
 
 /* Makes a book that resumes a saved state, in an empty handle, over a setup of the same document or of another one (docs/saved-states.md
  * says what each object keeps). The setup's handle is empty afterwards. The text isn't used after the call.
@@ -339,7 +350,7 @@ uint32_t nagsched_save(const struct nagsched_handle *book, uint8_t *text, size_t
  * SAVED_UNLAWFUL) and the object, and nagsched_refusal_text has its line. NO_MEMORY: nothing is known of the text. WRONG: the handle has no
  * setup, the book's handle isn't empty, or start is later than 2^60. With every status except OK the setup stays in its handle.
  * Allocates; takes longer with more bytes. Any thread, while no other call is made with the two handles. */
-uint32_t nagsched_resume(struct nagsched_handle *setup, const uint8_t *text, size_t bytes, uint64_t start, size_t room, struct nagsched_handle *book,
+enum nagsched_result nagsched_resume(struct nagsched_setup *setup, const char *text, size_t bytes, uint64_t start, size_t room, struct nagsched_book *book,
                          struct nagsched_refusal *refusal);
 
 /* The running check of a book's object: the number of its run, and the moment at which it was taken, in milliseconds. Call it for each
@@ -349,49 +360,49 @@ uint32_t nagsched_resume(struct nagsched_handle *setup, const uint8_t *text, siz
  * OK: run and start are written. MISSING: no check of the object is running. WRONG: the handle has no book, or the book no such object.
  * With these two statuses run and start are as they were. Allocates nothing, and takes the same time for every book. Any thread, also
  * while others read the book by functions that take it as const. The result holds until a desk on the book makes a call. */
-uint32_t nagsched_running(const struct nagsched_handle *book, uint32_t object, uint64_t *run, uint64_t *start);
+enum nagsched_result nagsched_running(const struct nagsched_book *book, uint32_t object, uint64_t *run, uint64_t *start);
 
 /* Frees what a handle refers to, and makes the handle empty. An empty handle stays empty. If a pass is freed, its desk can't be closed any
  * more: its history is freed with the last of its passes.
  *
  * OK. WRONG: the handle has a pass that waits. */
-uint32_t nagsched_free(struct nagsched_handle *handle);
+enum nagsched_result nagsched_free(struct nagsched_handle *handle);
 
 /* The six calls, each tried until its turn has come; between two tries the processor is yielded. The statuses are those of a try, without WAIT. A
  * program with its own way to wait, such as coroutines, makes the tries itself. */
-static inline uint32_t nagsched_take(struct nagsched_handle *pass, uint64_t now, struct nagsched_reply *reply) {
-    uint32_t status;
+static inline enum nagsched_result nagsched_take(struct nagsched_pass *pass, uint64_t now, struct nagsched_reply *reply) {
+    enum nagsched_result status;
     while ((status = nagsched_try_take(pass, now, reply)) == NAGSCHED_WAIT) sched_yield();
     return status;
 }
 
-static inline uint32_t nagsched_report(struct nagsched_handle *pass, uint32_t object, uint64_t run, uint32_t code, struct nagsched_reply *reply) {
-    uint32_t status;
+static inline enum nagsched_result nagsched_report(struct nagsched_pass *pass, uint32_t object, uint64_t run, enum nagsched_code code, struct nagsched_reply *reply) {
+    enum nagsched_result status;
     while ((status = nagsched_try_report(pass, object, run, code, reply)) == NAGSCHED_WAIT) sched_yield();
     return status;
 }
 
-static inline uint32_t nagsched_abandon(struct nagsched_handle *pass, uint32_t object, uint64_t run, uint64_t now, struct nagsched_reply *reply) {
-    uint32_t status;
+static inline enum nagsched_result nagsched_abandon(struct nagsched_pass *pass, uint32_t object, uint64_t run, uint64_t now, struct nagsched_reply *reply) {
+    enum nagsched_result status;
     while ((status = nagsched_try_abandon(pass, object, run, now, reply)) == NAGSCHED_WAIT) sched_yield();
     return status;
 }
 
-static inline uint32_t nagsched_reschedule(struct nagsched_handle *pass, uint32_t object, uint64_t time, uint32_t forced,
+static inline enum nagsched_result nagsched_reschedule(struct nagsched_pass *pass, uint32_t object, uint64_t time, uint32_t forced,
                                            struct nagsched_reply *reply) {
-    uint32_t status;
+    enum nagsched_result status;
     while ((status = nagsched_try_reschedule(pass, object, time, forced, reply)) == NAGSCHED_WAIT) sched_yield();
     return status;
 }
 
-static inline uint32_t nagsched_enable(struct nagsched_handle *pass, uint32_t object, uint32_t on, struct nagsched_reply *reply) {
-    uint32_t status;
+static inline enum nagsched_result nagsched_enable(struct nagsched_pass *pass, uint32_t object, uint32_t on, struct nagsched_reply *reply) {
+    enum nagsched_result status;
     while ((status = nagsched_try_enable(pass, object, on, reply)) == NAGSCHED_WAIT) sched_yield();
     return status;
 }
 
-static inline uint32_t nagsched_status(struct nagsched_handle *pass, uint32_t object, struct nagsched_reply *reply) {
-    uint32_t status;
+static inline enum nagsched_result nagsched_status(struct nagsched_pass *pass, uint32_t object, struct nagsched_reply *reply) {
+    enum nagsched_result status;
     while ((status = nagsched_try_status(pass, object, reply)) == NAGSCHED_WAIT) sched_yield();
     return status;
 }

@@ -53,11 +53,11 @@ echo "build_c: proving nagsched_c and the crates below that aren't proved yet"
 (cd "$top/crates/nagsched_c" && $build 2>&1 | tee "$work/build.log" | show_crates) || { cat "$work/build.log"; exit 1; }
 
 version=$(sed -n 's/^#define NAGSCHED_VERSION \([0-9]*\)u$/\1/p' "$header")
-sed -n 's/^uint32_t \(nagsched_[a-z_]*\)(.*/\1/p' "$header" > "$work/names"
+sed -n -E 's/^(uint32_t|enum nagsched_result) (nagsched_[a-z_]*)\(.*/\2/p' "$header" > "$work/names"
 { echo '{ global:'; sed 's/$/;/' "$work/names"; echo 'local: *; };'; } > "$work/names.map"
 
 # The guard replaces the proved functions that take a pointer, which get another name.
-sed -n '/(void)/d; s/^uint32_t nagsched_\([a-z_]*\)(.*/nagsched_\1 nagsched_proved_\1/p' "$header" > "$work/names.proved"
+sed -n -E 's/^enum nagsched_result nagsched_([a-z_]*)\(.*/nagsched_\1 nagsched_proved_\1/p' "$header" > "$work/names.proved"
 ld -r -o "$work/proved.o" --whole-archive "$top/crates/nagsched_c/out/libnagsched_c.a" --no-whole-archive "$heap"
 objcopy --redefine-syms="$work/names.proved" "$work/proved.o"
 cc -std=c11 -O2 -Wall -Wextra -Werror -fPIC -I"$top/include" -c "$top/bindings/c/guard.c" -o "$work/guard.o"

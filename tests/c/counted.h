@@ -39,9 +39,9 @@ static const char ONE_SERVICE[] = "{\"options\":{\"service_inter_check_delay_met
                                   "\"hosts\":[{\"name\":\"h\",\"check_interval\":0,\"max_check_attempts\":3}],"
                                   "\"services\":[{\"host\":\"h\",\"description\":\"s\",\"max_check_attempts\":3}]}";
 
-static inline uint32_t read_setup(struct nagsched_handle *setup) {
+static inline enum nagsched_result read_setup(struct nagsched_setup *setup) {
     struct nagsched_refusal refusal;
-    return nagsched_read((const uint8_t *)SETUP, strlen(SETUP), setup, &refusal);
+    return nagsched_read(SETUP, strlen(SETUP), setup, &refusal);
 }
 
 #endif

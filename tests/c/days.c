@@ -16,7 +16,7 @@ static const char ROOM[] = "{\"options\":{\"service_inter_check_delay_method\":\
                            "\"services\":[{\"host\":\"a\",\"description\":\"s\"," OFTEN ",{\"host\":\"b\",\"description\":\"s\"," OFTEN "]}";
 
 struct worker {
-    struct nagsched_handle *pass;
+    struct nagsched_pass *pass;
     uint64_t morning;
     pthread_t thread;
 };
@@ -26,13 +26,13 @@ static size_t entries;
 static uint64_t runs, out[OBJECTS];             /* the number of runs handed out, and the run under which each object is being checked */
 static struct nagsched_standing board[OBJECTS]; /* as it was shown in the evening */
 
-static void read_room(struct nagsched_handle *setup) {
+static void read_room(struct nagsched_setup *setup) {
     struct nagsched_refusal refusal;
-    GIVES(OK, nagsched_read((const uint8_t *)ROOM, strlen(ROOM), setup, &refusal));
+    GIVES(OK, nagsched_read(ROOM, strlen(ROOM), setup, &refusal));
 }
 
 /* The code that a machine reports: OK, except for some hours of each 31. */
-static uint32_t code_at(uint32_t object, uint64_t moment) {
+static enum nagsched_code code_at(uint32_t object, uint64_t moment) {
     const uint64_t hour = (moment / (2 * HALF_HOUR) + 7 * object) % 31;
     return hour < 5 ? NAGSCHED_CODE_CRITICAL : hour < 7 ? NAGSCHED_CODE_WARNING : NAGSCHED_CODE_OK;
 }
@@ -50,7 +50,7 @@ static void *work(void *given) {
 }
 
 /* The board shows each object as in the evening before. */
-static void is_shown(struct nagsched_handle *pass) {
+static void is_shown(struct nagsched_pass *pass) {
     for (uint32_t object = 0; object < OBJECTS; object++) {
         struct nagsched_standing standing;
         GIVES(OK, nagsched_glance(pass, object, &standing));
@@ -59,7 +59,7 @@ static void is_shown(struct nagsched_handle *pass) {
 }
 
 /* The operator ends the check that has been running since the evening: by a report, and every third day by an abandon. */
-static void end_the_night(struct nagsched_handle *pass, uint64_t day, uint64_t run) {
+static void end_the_night(struct nagsched_pass *pass, uint64_t day, uint64_t run) {
     struct nagsched_reply reply;
     if (day % 3 == 2) GIVES(OK, nagsched_abandon(pass, SERVICE, run, day * DAY, &reply));
     else GIVES(OK, nagsched_report(pass, SERVICE, run, NAGSCHED_CODE_WARNING, &reply));
@@ -69,7 +69,7 @@ static void end_the_night(struct nagsched_handle *pass, uint64_t day, uint64_t r
 /* The operator has the service checked in the evening, when nothing else is due, and that check stays running. The board shows the
  * standing of the status reply.
  */
-static void begin_the_night(struct nagsched_handle *pass, uint64_t day) {
+static void begin_the_night(struct nagsched_pass *pass, uint64_t day) {
     const uint64_t now = day * DAY + EVENING;
     struct nagsched_reply reply;
     GIVES(OK, nagsched_reschedule(pass, SERVICE, now, 1, &reply));
@@ -88,14 +88,14 @@ static void begin_the_night(struct nagsched_handle *pass, uint64_t day) {
 
 /* Adds the entries of a closed desk to those of the days before. Run numbers continue, no object is taken while its check is running, and
  * each worker took at each of its moments once. */
-static void keep(const struct nagsched_handle *book, uint64_t day) {
+static void keep(const struct nagsched_book *book, uint64_t day) {
     uint64_t count = 0, refused = 9, moments[WORKERS] = {0};
-    GIVES(OK, nagsched_entries(book, &count));
+    GIVES(OK, nagsched_entries(&book->handle, &count));
     GIVES(OK, nagsched_refused(book, &refused));
     IS(refused == 0 && entries + count <= MOST);
     for (uint64_t at = 0; at < count && entries < MOST; at++, entries++) {
         const struct nagsched_entry *entry = &history[entries];
-        GIVES(OK, nagsched_entry(book, at, &history[entries]));
+        GIVES(OK, nagsched_entry(&book->handle, at, &history[entries]));
         if (entry->call.kind == NAGSCHED_CALL_TAKE && entry->pass < WORKERS)
             IS(entry->call.moment == day * DAY + moments[entry->pass]++ * HALF_HOUR);
         if (entry->reply.kind == NAGSCHED_REPLY_TAKEN) {
@@ -109,28 +109,28 @@ static void keep(const struct nagsched_handle *book, uint64_t day) {
     for (size_t worker = 0; worker < WORKERS; worker++) IS(moments[worker] == MOMENTS);
 }
 
-/* Saves the book as text, ends it, and resumes the text over the same document as the next book. */
-static void restart(struct nagsched_handle *book, uint64_t start, struct nagsched_handle *next) {
-    static uint8_t text[8192];
-    struct nagsched_handle setup = NAGSCHED_EMPTY;
+/* Saves the book as text, ends it, and resumes the text over the same document in its place. */
+static void restart(struct nagsched_book *book, uint64_t start) {
+    static char text[8192];
+    struct nagsched_setup setup = NAGSCHED_EMPTY;
     struct nagsched_refusal refusal;
     size_t length = 0;
     GIVES(OK, nagsched_save(book, text, sizeof text, &length));
-    GIVES(OK, nagsched_free(book));
+    GIVES(OK, nagsched_free(&book->handle));
     read_room(&setup);
-    GIVES(OK, nagsched_resume(&setup, text, length, start, 0, next, &refusal));
+    GIVES(OK, nagsched_resume(&setup, text, length, start, 0, book, &refusal));
 }
 
-/* A day on this setup or book, which becomes the next day's book. */
-static void watch(struct nagsched_handle *book, uint64_t day) {
-    struct nagsched_handle passes[WORKERS + 1] = {NAGSCHED_EMPTY};
+/* A day: the first on the setup, each later one on the book, which becomes the next day's book. */
+static void watch(struct nagsched_setup *setup, struct nagsched_book *book, uint64_t day) {
+    struct nagsched_pass passes[WORKERS + 1] = {NAGSCHED_EMPTY};
     struct worker workers[WORKERS];
     struct nagsched_reply reply;
     uint64_t run = 0, since = 0;
     void *ended;
     if (day > 0) GIVES(OK, nagsched_running(book, SERVICE, &run, &since));
     IS(run == out[SERVICE] && since == (day > 0 ? (day - 1) * DAY + EVENING : 0));
-    GIVES(OK, nagsched_open(book, 0, 0, passes, WORKERS + 1));
+    GIVES(OK, nagsched_open(day > 0 ? &book->handle : &setup->handle, 0, 0, passes, WORKERS + 1));
     is_shown(&passes[OPERATOR]);
     if (day > 0) end_the_night(&passes[OPERATOR], day, run);
     for (size_t at = 0; at < WORKERS; at++) {
@@ -143,13 +143,13 @@ static void watch(struct nagsched_handle *book, uint64_t day) {
         GIVES(OK, nagsched_gather(&passes[OPERATOR], &passes[at]));
     }
     begin_the_night(&passes[OPERATOR], day);
-    GIVES(OK, nagsched_close(&passes[OPERATOR]));
-    keep(&passes[OPERATOR], day);
-    restart(&passes[OPERATOR], day * DAY + EVENING, book);
+    GIVES(OK, nagsched_close(&passes[OPERATOR], book));
+    keep(book, day);
+    restart(book, day * DAY + EVENING);
 }
 
 /* Makes a call again. */
-static uint32_t make(struct nagsched_handle *pass, const struct nagsched_call *call, struct nagsched_reply *reply) {
+static enum nagsched_result make(struct nagsched_pass *pass, const struct nagsched_call *call, struct nagsched_reply *reply) {
     switch (call->kind) {
     case NAGSCHED_CALL_TAKE: return nagsched_take(pass, call->moment, reply);
     case NAGSCHED_CALL_REPORT: return nagsched_report(pass, call->object, call->run, call->code, reply);
@@ -162,26 +162,28 @@ static uint32_t make(struct nagsched_handle *pass, const struct nagsched_call *c
 
 /* One scheduler, which never ended, gives the same replies to the calls of all days. */
 static void make_again(void) {
-    struct nagsched_handle pass = NAGSCHED_EMPTY, setup = NAGSCHED_EMPTY;
+    struct nagsched_pass pass = NAGSCHED_EMPTY;
+    struct nagsched_setup setup = NAGSCHED_EMPTY;
     struct nagsched_reply reply;
     size_t same = 0;
     read_room(&setup);
-    GIVES(OK, nagsched_open(&setup, 0, 0, &pass, 1));
+    GIVES(OK, nagsched_open(&setup.handle, 0, 0, &pass, 1));
     for (size_t at = 0; at < entries; at++)
         same += make(&pass, &history[at].call, &reply) == NAGSCHED_OK && memcmp(&reply, &history[at].reply, sizeof reply) == 0;
     IS(same == entries && entries > DAYS * WORKERS * MOMENTS);
     is_shown(&pass);
-    GIVES(OK, nagsched_free(&pass));
+    GIVES(OK, nagsched_free(&pass.handle));
 }
 
 int main(void) {
-    struct nagsched_handle book = NAGSCHED_EMPTY;
+    struct nagsched_setup setup = NAGSCHED_EMPTY;
+    struct nagsched_book book = NAGSCHED_EMPTY;
     for (uint32_t object = 0; object < OBJECTS; object++)
         board[object] = (struct nagsched_standing){.state = object < 2 ? NAGSCHED_STATE_UP : NAGSCHED_STATE_OK, .kind = NAGSCHED_HARD, .attempt = 1,
                                                    .last_hard = object < 2 ? NAGSCHED_STATE_UP : NAGSCHED_STATE_OK};
-    read_room(&book);
-    for (uint64_t day = 0; day < DAYS; day++) watch(&book, day);
-    GIVES(OK, nagsched_free(&book));
+    read_room(&setup);
+    for (uint64_t day = 0; day < DAYS; day++) watch(&setup, &book, day);
+    GIVES(OK, nagsched_free(&book.handle));
     make_again();
     return told("days");
 }

@@ -14,29 +14,30 @@
 /* One millisecond past the last moment. */
 #define TOO_LATE ((UINT64_C(1) << 60) + 1)
 
-static struct nagsched_handle passes[PASSES];
+static struct nagsched_pass passes[PASSES];
+static struct nagsched_book book;
 
 /* Opens a desk on a document for this many passes, with this many calls each. */
 static void open_desk(const char *document, size_t count, uint64_t calls) {
-    struct nagsched_handle setup = NAGSCHED_EMPTY;
+    struct nagsched_setup setup = NAGSCHED_EMPTY;
     struct nagsched_refusal refusal;
-    GIVES(OK, nagsched_read((const uint8_t *)document, strlen(document), &setup, &refusal));
-    GIVES(OK, nagsched_open_with(&setup, 0, 0, calls, passes, count));
+    GIVES(OK, nagsched_read(document, strlen(document), &setup, &refusal));
+    GIVES(OK, nagsched_open_with(&setup.handle, 0, 0, calls, passes, count));
 }
 
 /* Gathers the passes and closes their desk, whose book has this many entries. */
 static void close_desk(size_t count, uint64_t wanted) {
     uint64_t entries, refused;
     for (size_t at = 1; at < count; at++) GIVES(OK, nagsched_gather(&passes[0], &passes[at]));
-    GIVES(OK, nagsched_close(&passes[0]));
-    GIVES(OK, nagsched_entries(&passes[0], &entries));
-    GIVES(OK, nagsched_refused(&passes[0], &refused));
+    GIVES(OK, nagsched_close(&passes[0], &book));
+    GIVES(OK, nagsched_entries(&book.handle, &entries));
+    GIVES(OK, nagsched_refused(&book, &refused));
     IS(entries == wanted && refused == 0);
 }
 
 static struct nagsched_entry entry(uint64_t index) {
     struct nagsched_entry found;
-    GIVES(OK, nagsched_entry(&passes[0], index, &found));
+    GIVES(OK, nagsched_entry(&book.handle, index, &found));
     return found;
 }
 
@@ -54,10 +55,10 @@ static void out_of_order(void) {
     is_critical(&reply, 1);
     GIVES(OK, nagsched_status(&passes[1], 1, &reply));
     is_critical(&reply, 0);
-    GIVES(MISSING, nagsched_close(&passes[0]));
+    GIVES(MISSING, nagsched_close(&passes[0], &book));
     close_desk(3, 3);
     IS(entry(0).pass == 2 && entry(1).pass == 0 && entry(2).pass == 1);
-    GIVES(OK, nagsched_free(&passes[0]));
+    GIVES(OK, nagsched_free(&book.handle));
 }
 
 /* An unknown object is refused before a moment past the last one, and that before another run's number. */
@@ -81,7 +82,7 @@ static void first_refusals(void) {
     GIVES(OK, nagsched_abandon(&passes[0], 1, 2, TOO_LATE, &reply));
     IS(reply.kind == NAGSCHED_REPLY_TIME_RANGE);
     close_desk(1, 8);
-    GIVES(OK, nagsched_free(&passes[0]));
+    GIVES(OK, nagsched_free(&book.handle));
 }
 
 static void spent(void) {
@@ -91,7 +92,7 @@ static void spent(void) {
     GIVES(SPENT, nagsched_status(&passes[0], 1, &reply));
     close_desk(2, 2);
     IS(entry(0).pass == 0 && entry(1).pass == 0);
-    GIVES(OK, nagsched_free(&passes[0]));
+    GIVES(OK, nagsched_free(&book.handle));
 }
 
 static void most_passes(void) {
@@ -100,7 +101,7 @@ static void most_passes(void) {
     for (size_t at = 0; at < PASSES; at++) GIVES(OK, nagsched_status(&passes[at], 0, &reply));
     close_desk(PASSES, PASSES);
     for (size_t at = 0; at < PASSES; at++) IS(entry(at).pass == at);
-    GIVES(OK, nagsched_free(&passes[0]));
+    GIVES(OK, nagsched_free(&book.handle));
 }
 
 static void most_hosts(void) {
@@ -115,7 +116,7 @@ static void most_hosts(void) {
     IS(standing.checked == 0 && standing.state == NAGSCHED_STATE_UP);
     GIVES(WRONG, nagsched_glance(&passes[0], HOSTS, &standing));
     close_desk(1, 0);
-    GIVES(OK, nagsched_free(&passes[0]));
+    GIVES(OK, nagsched_free(&book.handle));
 }
 
 static void *call_often(void *pass) {
@@ -135,12 +136,12 @@ static void two_threads(void) {
     close_desk(2, 2 * CALLS);
     for (uint64_t at = 0; at < 2 * CALLS; at++) of_first += entry(at).pass == 0;
     IS(of_first == CALLS);
-    GIVES(OK, nagsched_free(&passes[0]));
+    GIVES(OK, nagsched_free(&book.handle));
 }
 
 /* Takes and reports the service many times. After each report its standing is another than before. */
 static void *report_often(void *pass) {
-    static const uint32_t codes[] = {NAGSCHED_CODE_CRITICAL, NAGSCHED_CODE_WARNING, NAGSCHED_CODE_OK};
+    static const enum nagsched_code codes[] = {NAGSCHED_CODE_CRITICAL, NAGSCHED_CODE_WARNING, NAGSCHED_CODE_OK};
     struct nagsched_reply reply;
     for (uint64_t check = 0; check < CHECKS; check++) {
         if (nagsched_take(pass, check * 600000, &reply) != NAGSCHED_OK || reply.kind != NAGSCHED_REPLY_TAKEN) return NULL;
@@ -173,7 +174,7 @@ static void glances(void) {
         while (at < 2 * CHECKS && !(next.reply.kind == NAGSCHED_REPLY_STANDING && is_same(&next.reply.standing, &seen[glance]))) next = entry(at++);
         IS(next.reply.kind == NAGSCHED_REPLY_STANDING && is_same(&next.reply.standing, &seen[glance]));
     }
-    GIVES(OK, nagsched_free(&passes[0]));
+    GIVES(OK, nagsched_free(&book.handle));
 }
 
 int main(void) {

@@ -22,7 +22,10 @@ void __real_free(void *block);
 
 /* The memory that is sealed while the threads read: handles first, then blocks, each after its size. */
 static struct sealed {
-    struct nagsched_handle setup, pass, book, history;
+    struct nagsched_setup setup;
+    struct nagsched_pass pass;
+    struct nagsched_book book;
+    struct nagsched_history history;
     size_t used;
     _Alignas(16) uint8_t blocks[];
 } *sealed;
@@ -61,17 +64,17 @@ static void was_written(int signal) {
 }
 
 /* Whether a text is this line. */
-static int is_text(uint32_t status, const uint8_t *text, const size_t *length, const char *line) {
+static int is_text(uint32_t status, const char *text, const size_t *length, const char *line) {
     return status == NAGSCHED_OK && *length == strlen(line) && memcmp(text, line, *length) == 0;
 }
 
 /* How many of four calls that read names give the expected results. */
 static int named(const struct nagsched_handle *of) {
     uint32_t objects = 0, hosts = 0, number = 0, host = 9;
-    uint8_t text[64];
+    char text[64];
     size_t length = 0;
     int right = nagsched_count(of, &objects, &hosts) == NAGSCHED_OK && objects == 2 && hosts == 1;
-    right += nagsched_number(of, (const uint8_t *)"h;s", 3, &number) == NAGSCHED_OK && number == 1;
+    right += nagsched_number(of, "h;s", 3, &number) == NAGSCHED_OK && number == 1;
     right += nagsched_host_of(of, 1, &host) == NAGSCHED_OK && host == 0;
     return right + is_text(nagsched_name(of, 1, text, sizeof text, &length), text, &length, "h;s");
 }
@@ -80,7 +83,7 @@ static int named(const struct nagsched_handle *of) {
 static int kept(const struct nagsched_handle *of, const struct nagsched_handle *names, uint64_t index) {
     struct nagsched_entry entry;
     uint64_t entries = 0;
-    uint8_t text[64];
+    char text[64];
     size_t length = 0;
     int right = nagsched_entries(of, &entries) == NAGSCHED_OK && entries == ENTRIES;
     right += nagsched_entry(of, index, &entry) == NAGSCHED_OK && entry.call.object == index % 2 && entry.reply.kind == NAGSCHED_REPLY_STANDING;
@@ -90,16 +93,16 @@ static int kept(const struct nagsched_handle *of, const struct nagsched_handle *
 }
 
 /* Whether no check is running. */
-static int running(const struct nagsched_handle *of) {
+static int running(const struct nagsched_book *of) {
     uint64_t run = 9, begun = 9;
     return nagsched_running(of, 1, &run, &begun) == NAGSCHED_MISSING && run == 9 && begun == 9;
 }
 
 /* Whether the saved state is the same as before. */
-static int is_saved(const struct nagsched_handle *of) {
-    static uint8_t before[1024];
+static int is_saved(const struct nagsched_book *of) {
+    static char before[1024];
     static size_t length_before;
-    uint8_t text[1024];
+    char text[1024];
     size_t length = 0;
     if (!is_sealed) return nagsched_save(of, before, sizeof before, &length_before) == NAGSCHED_OK;
     return nagsched_save(of, text, sizeof text, &length) == NAGSCHED_OK && length == length_before && memcmp(text, before, length) == 0;
@@ -110,14 +113,14 @@ static int round_of(uint64_t index) {
     struct nagsched_reply reply = {.kind = NAGSCHED_REPLY_DONE};
     struct nagsched_call call = {.kind = NAGSCHED_CALL_ENABLE, .object = 1, .flag = 1};
     uint64_t refused = 9;
-    uint8_t text[64];
+    char text[64];
     size_t length = 0;
-    int right = named(&sealed->setup) + named(&sealed->pass) + named(&sealed->book);
-    right += kept(&sealed->book, &sealed->setup, index) + kept(&sealed->history, &sealed->pass, index);
+    int right = named(&sealed->setup.handle) + named(&sealed->pass.handle) + named(&sealed->book.handle);
+    right += kept(&sealed->book.handle, &sealed->setup.handle, index) + kept(&sealed->history.handle, &sealed->pass.handle, index);
     right += nagsched_refused(&sealed->book, &refused) == NAGSCHED_OK && refused == 0;
     right += running(&sealed->book) && is_saved(&sealed->book);
-    right += nagsched_refused(&sealed->setup, &refused) == NAGSCHED_WRONG && nagsched_count(&sealed->history, NULL, NULL) == NAGSCHED_WRONG;
-    return right + is_text(nagsched_reply_text(&sealed->book, &call, &reply, text, sizeof text, &length), text, &length, "done h;s\n");
+    right += nagsched_refused((struct nagsched_book *)&sealed->setup, &refused) == NAGSCHED_WRONG && nagsched_count(&sealed->history.handle, NULL, NULL) == NAGSCHED_WRONG;
+    return right + is_text(nagsched_reply_text(&sealed->book.handle, &call, &reply, text, sizeof text, &length), text, &length, "done h;s\n");
 }
 
 enum { READS = 3 * 4 + 2 * 4 + 4 };
@@ -130,26 +133,27 @@ static void *read_often(void *given) {
 }
 
 /* A desk of one pass that has made calls with known texts. */
-static void open_and_ask(struct nagsched_handle *pass) {
-    struct nagsched_handle setup = NAGSCHED_EMPTY;
+static void open_and_ask(struct nagsched_pass *pass) {
+    struct nagsched_setup setup = NAGSCHED_EMPTY;
     struct nagsched_reply reply;
     GIVES(OK, read_setup(&setup));
-    GIVES(OK, nagsched_open(&setup, 0, 0, pass, 1));
+    GIVES(OK, nagsched_open(&setup.handle, 0, 0, pass, 1));
     for (uint32_t made = 0; made < ENTRIES; made++) GIVES(OK, nagsched_status(pass, made % 2, &reply));
 }
 
 static void prepare(void) {
-    struct nagsched_handle old = NAGSCHED_EMPTY;
+    struct nagsched_pass pass = NAGSCHED_EMPTY;
+    struct nagsched_book old = NAGSCHED_EMPTY;
     sealed = mmap(NULL, BYTES, PROT_READ | PROT_WRITE, MAP_PRIVATE | MAP_ANONYMOUS, -1, 0);
     if (sealed == MAP_FAILED) exit(2);
     GIVES(OK, read_setup(&sealed->setup));
     open_and_ask(&sealed->pass);
-    open_and_ask(&sealed->book);
-    GIVES(OK, nagsched_close(&sealed->book));
-    open_and_ask(&old);
-    GIVES(OK, nagsched_close(&old));
+    open_and_ask(&pass);
+    GIVES(OK, nagsched_close(&pass, &sealed->book));
+    open_and_ask(&pass);
+    GIVES(OK, nagsched_close(&pass, &old));
     GIVES(OK, nagsched_renew(&old, 0, &sealed->history));
-    GIVES(OK, nagsched_free(&old));
+    GIVES(OK, nagsched_free(&old.handle));
 }
 
 int main(void) {
@@ -164,9 +168,9 @@ int main(void) {
     for (int at = 0; at < 2; at++) IS(pthread_join(threads[at], &ended) == 0 && ended == &start);
     IS(mprotect(sealed, BYTES, PROT_READ | PROT_WRITE) == 0);
     is_sealed = 0;
-    GIVES(OK, nagsched_free(&sealed->setup));
-    GIVES(OK, nagsched_free(&sealed->pass));
-    GIVES(OK, nagsched_free(&sealed->book));
-    GIVES(OK, nagsched_free(&sealed->history));
+    GIVES(OK, nagsched_free(&sealed->setup.handle));
+    GIVES(OK, nagsched_free(&sealed->pass.handle));
+    GIVES(OK, nagsched_free(&sealed->book.handle));
+    GIVES(OK, nagsched_free(&sealed->history.handle));
     return told("readers");
 }

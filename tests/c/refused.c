@@ -47,7 +47,10 @@ static const char TWICE[] = "{\"hosts\":[{\"name\":\"h\",\"max_check_attempts\":
 
 /* Everything in a life. */
 static struct {
-    struct nagsched_handle setup, first[PASSES], history, second[PASSES], again, resumed;
+    struct nagsched_setup setup, again;
+    struct nagsched_pass first[PASSES], second[PASSES];
+    struct nagsched_book book, resumed;
+    struct nagsched_history history;
     struct nagsched_refusal refusal;
 } has, had;
 static long unmade, uncounted;
@@ -85,23 +88,23 @@ static size_t told_length, first_length;
     } while (0)
 
 /* Stores a text, after the earlier ones. */
-static void keep(const uint8_t *text, size_t length) {
+static void keep(const char *text, size_t length) {
     if (told_length + length > sizeof told_text) exit(2);
     memcpy(told_text + told_length, text, length);
     told_length += length;
 }
 
 /* All passes take and report for some minutes, in turn. */
-static void ask(struct nagsched_handle *passes, uint64_t first) {
+static void ask(struct nagsched_pass *passes, uint64_t first) {
     struct nagsched_reply reply = {0};
     struct nagsched_call call = {.kind = NAGSCHED_CALL_STATUS, .object = 2};
-    uint8_t text[512];
+    char text[512];
     size_t length = 0;
     for (uint64_t minute = first; minute < first + MINUTES; minute++) {
         for (size_t at = 0; at < PASSES; at++) {
             ASK(nagsched_take(&passes[at], minute * MINUTE, &reply));
             if (reply.kind == NAGSCHED_REPLY_TAKEN && minute % 4 != 3) {
-                ASK(nagsched_report(&passes[at], reply.object, reply.run, minute % 4, &reply));
+                ASK(nagsched_report(&passes[at], reply.object, reply.run, (enum nagsched_code)(minute % 4), &reply));
             } else if (reply.kind == NAGSCHED_REPLY_TAKEN) {
                 ASK(nagsched_abandon(&passes[at], reply.object, reply.run, minute * MINUTE, &reply));
             }
@@ -109,7 +112,7 @@ static void ask(struct nagsched_handle *passes, uint64_t first) {
         ASK(nagsched_enable(&passes[0], 1, minute % 2, &reply));
         ASK(nagsched_reschedule(&passes[1], 3, minute * MINUTE, 1, &reply));
         ASK(nagsched_status(&passes[2], 2, &reply));
-        OK(nagsched_reply_text(&passes[0], &call, &reply, text, sizeof text, &length));
+        OK(nagsched_reply_text(&passes[0].handle, &call, &reply, text, sizeof text, &length));
         keep(text, length);
     }
 }
@@ -117,7 +120,7 @@ static void ask(struct nagsched_handle *passes, uint64_t first) {
 /* The texts of all entries. */
 static void tell(const struct nagsched_handle *names, const struct nagsched_handle *entries) {
     struct nagsched_entry entry;
-    uint8_t text[512];
+    char text[512];
     uint64_t count = 0;
     size_t length = 0;
     OK(nagsched_entries(entries, &count));
@@ -128,26 +131,26 @@ static void tell(const struct nagsched_handle *names, const struct nagsched_hand
     }
 }
 
-/* Gathers all passes, and makes the first one the book. */
-static void close_desk(struct nagsched_handle *passes) {
+/* Gathers all passes, and ends their desk: the book has its history. */
+static void close_desk(struct nagsched_pass *passes) {
     uint64_t count = 0;
     for (size_t at = 1; at < PASSES; at++) OK(nagsched_gather(&passes[0], &passes[at]));
-    OK(nagsched_close(&passes[0]));
-    OK(nagsched_refused(&passes[0], &count));
+    OK(nagsched_close(&passes[0], &has.book));
+    OK(nagsched_refused(&has.book, &count));
     IS(count == (uint64_t)uncounted);
     uncounted = 0;
 }
 
 /* Saves a book, and resumes the saved state over a setup of the same document: the resumed book saves to the same text. Any other text is
  * refused. */
-static void save(const struct nagsched_handle *book) {
-    uint8_t text[2048], again[2048];
+static void save(const struct nagsched_book *book) {
+    char text[2048], again[2048];
     size_t length = 0, length_again = 0;
-    uint32_t status;
+    enum nagsched_result status;
     uint64_t run = 0, start = 0;
     OK(nagsched_save(book, text, sizeof text, &length));
     keep(text, length);
-    OK(nagsched_read((const uint8_t *)NETWORK, strlen(NETWORK), &has.again, &has.refusal));
+    OK(nagsched_read(NETWORK, strlen(NETWORK), &has.again, &has.refusal));
     AGAIN(status, nagsched_resume(&has.again, text, length - 1, 0, 5, &has.resumed, &has.refusal));
     IS(status == NAGSCHED_REFUSED && has.refusal.kind == NAGSCHED_REFUSAL_SAVED_NOT_JSON);
     OK(nagsched_refusal_text(&has.refusal, again, sizeof again, &length_again));
@@ -157,38 +160,39 @@ static void save(const struct nagsched_handle *book) {
     IS(length_again == length && memcmp(text, again, length) == 0);
     AGAIN(status, nagsched_running(&has.resumed, 0, &run, &start));
     IS(status == NAGSCHED_MISSING);
-    OK(nagsched_free(&has.resumed));
+    OK(nagsched_free(&has.resumed.handle));
 }
 
 /* The whole life of a desk, with this request for memory refused, or none. */
 static void live(long refused_request) {
-    uint8_t text[64];
+    char text[64];
     size_t length = 0;
-    uint32_t status, number = 0;
+    enum nagsched_result status;
+    uint32_t number = 0;
     memset(&has, 0, sizeof has);
     requests = unmade = uncounted = 0, refused_one = refused_request, told_length = 0;
-    AGAIN(status, nagsched_read((const uint8_t *)TWICE, strlen(TWICE), &has.setup, &has.refusal));
+    AGAIN(status, nagsched_read(TWICE, strlen(TWICE), &has.setup, &has.refusal));
     IS(status == NAGSCHED_REFUSED && has.refusal.kind == NAGSCHED_REFUSAL_DUPLICATE && has.refusal.index == 1);
     OK(nagsched_refusal_text(&has.refusal, text, sizeof text, &length));
     keep(text, length);
-    OK(nagsched_read((const uint8_t *)NETWORK, strlen(NETWORK), &has.setup, &has.refusal));
-    OK(nagsched_number(&has.setup, (const uint8_t *)"printer;toner", 13, &number));
+    OK(nagsched_read(NETWORK, strlen(NETWORK), &has.setup, &has.refusal));
+    OK(nagsched_number(&has.setup.handle, "printer;toner", 13, &number));
     IS(number == 3);
-    OK(nagsched_name(&has.setup, number, text, sizeof text, &length));
+    OK(nagsched_name(&has.setup.handle, number, text, sizeof text, &length));
     keep(text, length);
-    OK(nagsched_open(&has.setup, 0, 0, has.first, PASSES));
+    OK(nagsched_open(&has.setup.handle, 0, 0, has.first, PASSES));
     ask(has.first, 0);
     close_desk(has.first);
-    tell(has.first, has.first);
-    OK(nagsched_renew(has.first, 5, &has.history));
-    tell(has.first, &has.history);
-    OK(nagsched_free(&has.history));
-    OK(nagsched_open_with(has.first, 0, 0, 1000, has.second, PASSES));
+    tell(&has.book.handle, &has.book.handle);
+    OK(nagsched_renew(&has.book, 5, &has.history));
+    tell(&has.book.handle, &has.history.handle);
+    OK(nagsched_free(&has.history.handle));
+    OK(nagsched_open_with(&has.book.handle, 0, 0, 1000, has.second, PASSES));
     ask(has.second, MINUTES);
     close_desk(has.second);
-    tell(has.second, has.second);
-    save(has.second);
-    OK(nagsched_free(has.second));
+    tell(&has.book.handle, &has.book.handle);
+    save(&has.book);
+    OK(nagsched_free(&has.book.handle));
     IS(blocks == 0);
 }
 

@@ -18,7 +18,7 @@ static void must(uint32_t status, const char *what) {
 }
 
 /* Makes the call of a line: its command, two numbers at most, and a name. */
-static uint32_t make(struct nagsched_handle *pass, const char *line, size_t bytes, struct nagsched_call *call, struct nagsched_reply *reply) {
+static enum nagsched_result make(struct nagsched_pass *pass, const char *line, size_t bytes, struct nagsched_call *call, struct nagsched_reply *reply) {
     uint64_t first = 0, second = 0;
     uint32_t object;
     int name = 0;
@@ -30,10 +30,10 @@ static uint32_t make(struct nagsched_handle *pass, const char *line, size_t byte
     else if (sscanf(line, "enable %" SCNu64 "%n", &first, &name) == 1) call->kind = NAGSCHED_CALL_ENABLE;
     else name = (int)strlen("status"), call->kind = NAGSCHED_CALL_STATUS;
     name++;
-    must(nagsched_number(pass, (const uint8_t *)line + name, bytes - (size_t)name, &object), line);
+    must(nagsched_number(&pass->handle, line + name, bytes - (size_t)name, &object), line);
     call->object = object;
     switch (call->kind) {
-    case NAGSCHED_CALL_REPORT: return nagsched_report(pass, object, first, (uint32_t)second, reply);
+    case NAGSCHED_CALL_REPORT: return nagsched_report(pass, object, first, (enum nagsched_code)second, reply);
     case NAGSCHED_CALL_ABANDON: return nagsched_abandon(pass, object, first, second, reply);
     case NAGSCHED_CALL_RESCHEDULE: return nagsched_reschedule(pass, object, first, (uint32_t)second, reply);
     case NAGSCHED_CALL_ENABLE: return nagsched_enable(pass, object, (uint32_t)first, reply);
@@ -42,27 +42,29 @@ static uint32_t make(struct nagsched_handle *pass, const char *line, size_t byte
 }
 
 int main(void) {
-    struct nagsched_handle setup = NAGSCHED_EMPTY, pass = NAGSCHED_EMPTY;
+    struct nagsched_setup setup = NAGSCHED_EMPTY;
+    struct nagsched_pass pass = NAGSCHED_EMPTY;
+    struct nagsched_book book = NAGSCHED_EMPTY;
     struct nagsched_call call;
     struct nagsched_reply reply;
     struct nagsched_refusal refusal;
     char *line = NULL;
-    uint8_t text[1024];
+    char text[1024];
     size_t room = 0, length;
     ssize_t bytes;
     uint64_t start;
     if (getline(&line, &room, stdin) < 0 || sscanf(line, "%" SCNu64, &start) != 1) return 2;
     if ((bytes = getline(&line, &room, stdin)) < 1) return 2;
-    must(nagsched_read((const uint8_t *)line, (size_t)bytes - 1, &setup, &refusal), "read");
-    must(nagsched_open(&setup, start, 0, &pass, 1), "open");
+    must(nagsched_read(line, (size_t)bytes - 1, &setup, &refusal), "read");
+    must(nagsched_open(&setup.handle, start, 0, &pass, 1), "open");
     while ((bytes = getline(&line, &room, stdin)) > 0) {
         line[bytes - 1] = 0;
         must(make(&pass, line, (size_t)bytes - 1, &call, &reply), line);
-        must(nagsched_reply_text(&pass, &call, &reply, text, sizeof text, &length), "reply_text");
+        must(nagsched_reply_text(&pass.handle, &call, &reply, text, sizeof text, &length), "reply_text");
         fwrite(text, 1, length, stdout);
     }
-    must(nagsched_close(&pass), "close");
-    must(nagsched_free(&pass), "free");
+    must(nagsched_close(&pass, &book), "close");
+    must(nagsched_free(&book.handle), "free");
     free(line);
     return 0;
 }

@@ -5,14 +5,14 @@
 
 #define LAST_RUN ((uint64_t)1 << 60)
 
-static struct nagsched_handle setup = NAGSCHED_EMPTY;
+static struct nagsched_setup setup = NAGSCHED_EMPTY;
 
 /* The reply to a status call for the service has this line. */
 static void is_told(struct nagsched_reply reply, const char *line) {
     const struct nagsched_call status = {.kind = NAGSCHED_CALL_STATUS, .object = 1};
-    uint8_t text[80];
+    char text[80];
     size_t length = 0;
-    GIVES(OK, nagsched_reply_text(&setup, &status, &reply, text, sizeof text, &length));
+    GIVES(OK, nagsched_reply_text(&setup.handle, &status, &reply, text, sizeof text, &length));
     has_to_be(length == strlen(line) && memcmp(text, line, length) == 0, line, __FILE__, __LINE__);
 }
 
@@ -47,6 +47,6 @@ int main(void) {
     standings();
     runs();
     refusals();
-    GIVES(OK, nagsched_free(&setup));
+    GIVES(OK, nagsched_free(&setup.handle));
     return told("texts");
 }

@@ -12,7 +12,11 @@
 
 /* All handles, and everything that a call can write. */
 static struct everything {
-    struct nagsched_handle empty, setup, of_desk[2], theirs, book, history, two[2];
+    struct nagsched_handle empty, two[2];
+    struct nagsched_setup setup;
+    struct nagsched_pass of_desk[2], theirs;
+    struct nagsched_book book;
+    struct nagsched_history history;
     struct nagsched_refusal refusal;
     struct nagsched_reply reply;
     struct nagsched_standing standing;
@@ -21,11 +25,11 @@ static struct everything {
     uint64_t count, run;
     uint32_t number, hosts;
     size_t length;
-    uint8_t text[64];
+    char text[64];
 } it, was;
 
 /* The saved state of a book. */
-static uint8_t saved[1024];
+static char saved[1024];
 static size_t saved_length;
 
 /* The two passes of one desk. */
@@ -40,17 +44,20 @@ static size_t saved_length;
         has_to_be(memcmp(&was, &it, sizeof it) == 0, #mistake " changes nothing", __FILE__, __LINE__); \
     } while (0)
 
-/* A function that needs a handle of some kinds gets an empty handle, and a handle of another kind. */
-#define NOT_BY(function, handle, ...)            \
-    do {                                         \
-        WRONG(function(&it.empty, __VA_ARGS__)); \
-        WRONG(function(handle, __VA_ARGS__));    \
+/* A handle in the place of one of another type, which the compiler would refuse without the cast. */
+#define AS(type, handle) ((struct nagsched_##type *)(handle))
+
+/* A function that needs a handle of a type gets an empty handle, and a handle of another kind. */
+#define NOT_BY(function, type, handle, ...)                \
+    do {                                                   \
+        WRONG(function(AS(type, &it.empty), __VA_ARGS__)); \
+        WRONG(function(AS(type, handle), __VA_ARGS__));    \
     } while (0)
 
 void *__real_malloc(size_t size);
 void *__real_realloc(void *old, size_t size);
 static int waits_for_memory;
-static uint32_t status_meanwhile;
+static enum nagsched_result status_meanwhile;
 
 /* Another thread's try, while this one holds the turn. */
 static void *meanwhile(void *given) {
@@ -77,7 +84,7 @@ void *__wrap_realloc(void *old, size_t size) {
 }
 
 static void readings(void) {
-    const uint8_t *document = (const uint8_t *)SETUP;
+    const char *document = SETUP;
     WRONG(nagsched_read(document, strlen(SETUP), &it.setup, &it.refusal));
 }
 
@@ -109,82 +116,82 @@ static void texts(void) {
 
     memset(&it.call, 0, sizeof it.call), memset(&it.reply, 0, sizeof it.reply);
     it.reply.run = 1;
-    NOT_BY(nagsched_reply_text, &it.history, &it.call, &it.reply, it.text, sizeof it.text, &it.length);
-    NO_ROOM(taken, nagsched_reply_text(&it.setup, &it.call, &it.reply, it.text, taken - 1, &it.length));
-    GIVES(OK, nagsched_reply_text(&it.setup, &it.call, &it.reply, it.text, sizeof it.text, &it.length));
+    NOT_BY(nagsched_reply_text, handle, &it.history, &it.call, &it.reply, it.text, sizeof it.text, &it.length);
+    NO_ROOM(taken, nagsched_reply_text(&it.setup.handle, &it.call, &it.reply, it.text, taken - 1, &it.length));
+    GIVES(OK, nagsched_reply_text(&it.setup.handle, &it.call, &it.reply, it.text, sizeof it.text, &it.length));
     IS(it.length == taken && memcmp(it.text, "taken 1 h\n", taken) == 0);
     it.reply.kind = NAGSCHED_REPLY_RUNS_SPENT + 1;
-    WRONG(nagsched_reply_text(&it.setup, &it.call, &it.reply, it.text, sizeof it.text, &it.length));
+    WRONG(nagsched_reply_text(&it.setup.handle, &it.call, &it.reply, it.text, sizeof it.text, &it.length));
     it.reply.kind = 0, it.call.kind = NAGSCHED_CALL_STATUS + 1;
-    WRONG(nagsched_reply_text(&it.setup, &it.call, &it.reply, it.text, sizeof it.text, &it.length));
+    WRONG(nagsched_reply_text(&it.setup.handle, &it.call, &it.reply, it.text, sizeof it.text, &it.length));
 
-    GIVES(OK, nagsched_entry(&it.history, 0, &it.entry));
-    NOT_BY(nagsched_entry_text, &it.history, &it.entry, it.text, sizeof it.text, &it.length);
-    NO_ROOM(taken + 2, nagsched_entry_text(&it.book, &it.entry, it.text, taken + 1, &it.length));
+    GIVES(OK, nagsched_entry(&it.history.handle, 0, &it.entry));
+    NOT_BY(nagsched_entry_text, handle, &it.history, &it.entry, it.text, sizeof it.text, &it.length);
+    NO_ROOM(taken + 2, nagsched_entry_text(&it.book.handle, &it.entry, it.text, taken + 1, &it.length));
     it.entry.reply.kind = NAGSCHED_REPLY_RUNS_SPENT + 1;
-    WRONG(nagsched_entry_text(&it.book, &it.entry, it.text, sizeof it.text, &it.length));
+    WRONG(nagsched_entry_text(&it.book.handle, &it.entry, it.text, sizeof it.text, &it.length));
 }
 
 static void names(void) {
-    const uint8_t *name = (const uint8_t *)"h;s";
-    NOT_BY(nagsched_count, &it.history, &it.number, &it.hosts);
-    NOT_BY(nagsched_number, &it.history, name, 3, &it.number);
-    NOT_BY(nagsched_name, &it.history, 0, it.text, sizeof it.text, &it.length);
-    WRONG(nagsched_name(&it.setup, 2, it.text, sizeof it.text, &it.length));
-    NO_ROOM(3, nagsched_name(&it.setup, 1, it.text, 2, &it.length));
-    NOT_BY(nagsched_host_of, &it.history, 1, &it.number);
-    WRONG(nagsched_host_of(&it.setup, 2, &it.number));
+    const char *name = "h;s";
+    NOT_BY(nagsched_count, handle, &it.history, &it.number, &it.hosts);
+    NOT_BY(nagsched_number, handle, &it.history, name, 3, &it.number);
+    NOT_BY(nagsched_name, handle, &it.history, 0, it.text, sizeof it.text, &it.length);
+    WRONG(nagsched_name(&it.setup.handle, 2, it.text, sizeof it.text, &it.length));
+    NO_ROOM(3, nagsched_name(&it.setup.handle, 1, it.text, 2, &it.length));
+    NOT_BY(nagsched_host_of, handle, &it.history, 1, &it.number);
+    WRONG(nagsched_host_of(&it.setup.handle, 2, &it.number));
     memcpy(&was, &it, sizeof it);
-    GIVES(MISSING, nagsched_number(&it.setup, name, 2, &it.number));
-    GIVES(MISSING, nagsched_host_of(&it.setup, 0, &it.number));
+    GIVES(MISSING, nagsched_number(&it.setup.handle, name, 2, &it.number));
+    GIVES(MISSING, nagsched_host_of(&it.setup.handle, 0, &it.number));
     IS(memcmp(&was, &it, sizeof it) == 0);
 }
 
 static void openings(void) {
-    NOT_BY(nagsched_open, MINE, 0, 0, it.two, 2);
-    WRONG(nagsched_open(&it.history, 0, 0, it.two, 2));
-    WRONG(nagsched_open(&it.setup, LATEST + 1, 0, it.two, 2));
-    WRONG(nagsched_open(&it.setup, 0, 0, it.two, 0));
-    WRONG(nagsched_open(&it.setup, 0, 0, it.two, 1025));
-    WRONG(nagsched_open(&it.setup, 0, 0, &it.book, 1));
-    WRONG(nagsched_open(&it.setup, 0, 0, MINE, 1));
-    WRONG(nagsched_open_with(&it.setup, 0, 0, 0, it.two, 2));
-    WRONG(nagsched_open_with(&it.setup, 0, 0, (uint64_t)1 << 32, it.two, 2));
-    WRONG(nagsched_open_with(MINE, 0, 0, 1, it.two, 2));
-    WRONG(nagsched_open(&it.book, 0, 0, it.two, 2));
-    GIVES(OK, read_setup(&it.two[1]));
-    WRONG(nagsched_open(&it.setup, 0, 0, it.two, 2));
+    NOT_BY(nagsched_open, handle, MINE, 0, 0, AS(pass, it.two), 2);
+    WRONG(nagsched_open(&it.history.handle, 0, 0, AS(pass, it.two), 2));
+    WRONG(nagsched_open(&it.setup.handle, LATEST + 1, 0, AS(pass, it.two), 2));
+    WRONG(nagsched_open(&it.setup.handle, 0, 0, AS(pass, it.two), 0));
+    WRONG(nagsched_open(&it.setup.handle, 0, 0, AS(pass, it.two), 1025));
+    WRONG(nagsched_open(&it.setup.handle, 0, 0, AS(pass, &it.book), 1));
+    WRONG(nagsched_open(&it.setup.handle, 0, 0, MINE, 1));
+    WRONG(nagsched_open_with(&it.setup.handle, 0, 0, 0, AS(pass, it.two), 2));
+    WRONG(nagsched_open_with(&it.setup.handle, 0, 0, (uint64_t)1 << 32, AS(pass, it.two), 2));
+    WRONG(nagsched_open_with(&MINE->handle, 0, 0, 1, AS(pass, it.two), 2));
+    WRONG(nagsched_open(&it.book.handle, 0, 0, AS(pass, it.two), 2));
+    GIVES(OK, read_setup(AS(setup, &it.two[1])));
+    WRONG(nagsched_open(&it.setup.handle, 0, 0, AS(pass, it.two), 2));
     GIVES(OK, nagsched_free(&it.two[1]));
     memcpy(&was, &it, sizeof it);
-    GIVES(NO_MEMORY, nagsched_open(&it.setup, 0, SIZE_MAX, it.two, 2));
-    GIVES(NO_MEMORY, nagsched_renew(&it.book, SIZE_MAX, &it.empty));
+    GIVES(NO_MEMORY, nagsched_open(&it.setup.handle, 0, SIZE_MAX, AS(pass, it.two), 2));
+    GIVES(NO_MEMORY, nagsched_renew(&it.book, SIZE_MAX, AS(history, &it.empty)));
     IS(memcmp(&was, &it, sizeof it) == 0);
 }
 
 /* States that can't be saved or resumed, and checks that can't be running. */
 static void savings(void) {
-    const uint8_t *document = (const uint8_t *)SETUP;
-    NOT_BY(nagsched_save, &it.setup, it.text, sizeof it.text, &it.length);
-    WRONG(nagsched_save(MINE, it.text, sizeof it.text, &it.length));
-    WRONG(nagsched_save(&it.history, it.text, sizeof it.text, &it.length));
+    const char *document = SETUP;
+    NOT_BY(nagsched_save, book, &it.setup, it.text, sizeof it.text, &it.length);
+    WRONG(nagsched_save(AS(book, MINE), it.text, sizeof it.text, &it.length));
+    WRONG(nagsched_save(AS(book, &it.history), it.text, sizeof it.text, &it.length));
     GIVES(OK, nagsched_save(&it.book, saved, sizeof saved, &saved_length));
     NO_ROOM(saved_length, nagsched_save(&it.book, it.text, sizeof it.text, &it.length));
     NO_ROOM(saved_length, nagsched_save(&it.book, it.text, 0, &it.length));
-    NOT_BY(nagsched_resume, MINE, saved, saved_length, 0, 0, &it.two[0], &it.refusal);
-    WRONG(nagsched_resume(&it.book, saved, saved_length, 0, 0, &it.two[0], &it.refusal));
-    WRONG(nagsched_resume(&it.history, saved, saved_length, 0, 0, &it.two[0], &it.refusal));
-    WRONG(nagsched_resume(&it.setup, saved, saved_length, LATEST + 1, 0, &it.two[0], &it.refusal));
+    NOT_BY(nagsched_resume, setup, MINE, saved, saved_length, 0, 0, AS(book, &it.two[0]), &it.refusal);
+    WRONG(nagsched_resume(AS(setup, &it.book), saved, saved_length, 0, 0, AS(book, &it.two[0]), &it.refusal));
+    WRONG(nagsched_resume(AS(setup, &it.history), saved, saved_length, 0, 0, AS(book, &it.two[0]), &it.refusal));
+    WRONG(nagsched_resume(&it.setup, saved, saved_length, LATEST + 1, 0, AS(book, &it.two[0]), &it.refusal));
     WRONG(nagsched_resume(&it.setup, saved, saved_length, 0, 0, &it.book, &it.refusal));
-    WRONG(nagsched_resume(&it.setup, saved, saved_length, 0, 0, MINE, &it.refusal));
+    WRONG(nagsched_resume(&it.setup, saved, saved_length, 0, 0, AS(book, MINE), &it.refusal));
     memcpy(&was, &it, sizeof it);
-    GIVES(NO_MEMORY, nagsched_resume(&it.setup, saved, saved_length, 0, SIZE_MAX, &it.two[0], &it.refusal));
+    GIVES(NO_MEMORY, nagsched_resume(&it.setup, saved, saved_length, 0, SIZE_MAX, AS(book, &it.two[0]), &it.refusal));
     IS(memcmp(&was, &it, sizeof it) == 0);
-    GIVES(REFUSED, nagsched_resume(&it.setup, document, strlen(SETUP), 0, 0, &it.two[0], &it.refusal));
+    GIVES(REFUSED, nagsched_resume(&it.setup, document, strlen(SETUP), 0, 0, AS(book, &it.two[0]), &it.refusal));
     IS(it.refusal.kind == NAGSCHED_REFUSAL_SAVED_SHAPE && it.refusal.part == NAGSCHED_PART_NONE && it.refusal.has_index == 0);
     it.refusal = was.refusal;
     IS(memcmp(&was, &it, sizeof it) == 0);
-    NOT_BY(nagsched_running, &it.setup, 0, &it.count, &it.run);
-    WRONG(nagsched_running(MINE, 0, &it.count, &it.run));
+    NOT_BY(nagsched_running, book, &it.setup, 0, &it.count, &it.run);
+    WRONG(nagsched_running(AS(book, MINE), 0, &it.count, &it.run));
     WRONG(nagsched_running(&it.book, 2, &it.count, &it.run));
     WRONG(nagsched_running(&it.book, UINT32_MAX, &it.count, &it.run));
     memcpy(&was, &it, sizeof it);
@@ -193,11 +200,11 @@ static void savings(void) {
 }
 
 static void no_document(void) {
-    const uint8_t *document = (const uint8_t *)SETUP;
-    WRONG(nagsched_read(NULL, strlen(SETUP), &it.empty, &it.refusal));
-    WRONG(nagsched_read(NULL, 0, &it.empty, &it.refusal));
+    const char *document = SETUP;
+    WRONG(nagsched_read(NULL, strlen(SETUP), AS(setup, &it.empty), &it.refusal));
+    WRONG(nagsched_read(NULL, 0, AS(setup, &it.empty), &it.refusal));
     WRONG(nagsched_read(document, strlen(SETUP), NULL, &it.refusal));
-    WRONG(nagsched_read(document, strlen(SETUP), &it.empty, NULL));
+    WRONG(nagsched_read(document, strlen(SETUP), AS(setup, &it.empty), NULL));
     WRONG(nagsched_free(NULL));
 }
 
@@ -215,27 +222,27 @@ static void no_texts(void) {
     WRONG(nagsched_refusal_text(NULL, it.text, sizeof it.text, &it.length));
     NO_TEXT(nagsched_refusal_text, &refused);
     WRONG(nagsched_reply_text(NULL, &it.call, &it.reply, it.text, sizeof it.text, &it.length));
-    WRONG(nagsched_reply_text(&it.setup, NULL, &it.reply, it.text, sizeof it.text, &it.length));
-    WRONG(nagsched_reply_text(&it.setup, &it.call, NULL, it.text, sizeof it.text, &it.length));
-    NO_TEXT(nagsched_reply_text, &it.setup, &it.call, &it.reply);
+    WRONG(nagsched_reply_text(&it.setup.handle, NULL, &it.reply, it.text, sizeof it.text, &it.length));
+    WRONG(nagsched_reply_text(&it.setup.handle, &it.call, NULL, it.text, sizeof it.text, &it.length));
+    NO_TEXT(nagsched_reply_text, &it.setup.handle, &it.call, &it.reply);
     WRONG(nagsched_entry_text(NULL, &it.entry, it.text, sizeof it.text, &it.length));
-    WRONG(nagsched_entry_text(&it.setup, NULL, it.text, sizeof it.text, &it.length));
-    NO_TEXT(nagsched_entry_text, &it.setup, &it.entry);
+    WRONG(nagsched_entry_text(&it.setup.handle, NULL, it.text, sizeof it.text, &it.length));
+    NO_TEXT(nagsched_entry_text, &it.setup.handle, &it.entry);
 }
 
 static void no_names(void) {
-    const uint8_t *name = (const uint8_t *)"h;s";
+    const char *name = "h;s";
     WRONG(nagsched_count(NULL, &it.number, &it.hosts));
-    WRONG(nagsched_count(&it.setup, NULL, &it.hosts));
-    WRONG(nagsched_count(&it.setup, &it.number, NULL));
+    WRONG(nagsched_count(&it.setup.handle, NULL, &it.hosts));
+    WRONG(nagsched_count(&it.setup.handle, &it.number, NULL));
     WRONG(nagsched_number(NULL, name, 3, &it.number));
-    WRONG(nagsched_number(&it.setup, NULL, 3, &it.number));
-    WRONG(nagsched_number(&it.setup, NULL, 0, &it.number));
-    WRONG(nagsched_number(&it.setup, name, 3, NULL));
+    WRONG(nagsched_number(&it.setup.handle, NULL, 3, &it.number));
+    WRONG(nagsched_number(&it.setup.handle, NULL, 0, &it.number));
+    WRONG(nagsched_number(&it.setup.handle, name, 3, NULL));
     WRONG(nagsched_name(NULL, 1, it.text, sizeof it.text, &it.length));
-    NO_TEXT(nagsched_name, &it.setup, 1);
+    NO_TEXT(nagsched_name, &it.setup.handle, 1);
     WRONG(nagsched_host_of(NULL, 1, &it.number));
-    WRONG(nagsched_host_of(&it.setup, 1, NULL));
+    WRONG(nagsched_host_of(&it.setup.handle, 1, NULL));
 }
 
 /* A call, as a try and whole: no pass, and no reply. */
@@ -259,32 +266,33 @@ static void no_calls(void) {
 }
 
 static void no_handles(void) {
-    WRONG(nagsched_open(NULL, 0, 0, it.two, 2));
-    WRONG(nagsched_open(&it.setup, 0, 0, NULL, 2));
-    WRONG(nagsched_open(&it.setup, 0, 0, NULL, 0));
-    WRONG(nagsched_open_with(NULL, 0, 0, 1, it.two, 2));
-    WRONG(nagsched_open_with(&it.setup, 0, 0, 1, NULL, 2));
+    WRONG(nagsched_open(NULL, 0, 0, AS(pass, it.two), 2));
+    WRONG(nagsched_open(&it.setup.handle, 0, 0, NULL, 2));
+    WRONG(nagsched_open(&it.setup.handle, 0, 0, NULL, 0));
+    WRONG(nagsched_open_with(NULL, 0, 0, 1, AS(pass, it.two), 2));
+    WRONG(nagsched_open_with(&it.setup.handle, 0, 0, 1, NULL, 2));
     WRONG(nagsched_gather(NULL, MINE));
     WRONG(nagsched_gather(MINE, NULL));
-    WRONG(nagsched_close(NULL));
+    WRONG(nagsched_close(NULL, AS(book, &it.empty)));
+    WRONG(nagsched_close(MINE, NULL));
     WRONG(nagsched_entries(NULL, &it.count));
-    WRONG(nagsched_entries(&it.book, NULL));
+    WRONG(nagsched_entries(&it.book.handle, NULL));
     WRONG(nagsched_entry(NULL, 0, &it.entry));
-    WRONG(nagsched_entry(&it.book, 0, NULL));
+    WRONG(nagsched_entry(&it.book.handle, 0, NULL));
     WRONG(nagsched_refused(NULL, &it.count));
     WRONG(nagsched_refused(&it.book, NULL));
-    WRONG(nagsched_renew(NULL, 0, &it.empty));
+    WRONG(nagsched_renew(NULL, 0, AS(history, &it.empty)));
     WRONG(nagsched_renew(&it.book, 0, NULL));
 }
 
 static void no_savings(void) {
     NO_TEXT(nagsched_save, &it.book);
     WRONG(nagsched_save(NULL, it.text, sizeof it.text, &it.length));
-    WRONG(nagsched_resume(NULL, saved, saved_length, 0, 0, &it.empty, &it.refusal));
-    WRONG(nagsched_resume(&it.setup, NULL, saved_length, 0, 0, &it.empty, &it.refusal));
-    WRONG(nagsched_resume(&it.setup, NULL, 0, 0, 0, &it.empty, &it.refusal));
+    WRONG(nagsched_resume(NULL, saved, saved_length, 0, 0, AS(book, &it.empty), &it.refusal));
+    WRONG(nagsched_resume(&it.setup, NULL, saved_length, 0, 0, AS(book, &it.empty), &it.refusal));
+    WRONG(nagsched_resume(&it.setup, NULL, 0, 0, 0, AS(book, &it.empty), &it.refusal));
     WRONG(nagsched_resume(&it.setup, saved, saved_length, 0, 0, NULL, &it.refusal));
-    WRONG(nagsched_resume(&it.setup, saved, saved_length, 0, 0, &it.empty, NULL));
+    WRONG(nagsched_resume(&it.setup, saved, saved_length, 0, 0, AS(book, &it.empty), NULL));
     WRONG(nagsched_running(NULL, 0, &it.count, &it.run));
     WRONG(nagsched_running(&it.book, 0, NULL, &it.run));
     WRONG(nagsched_running(&it.book, 0, &it.count, NULL));
@@ -292,21 +300,21 @@ static void no_savings(void) {
 
 /* One pointer for two arguments. A setup next to the passes' handles is different from them. */
 static void one_for_two(void) {
-    WRONG(nagsched_count(&it.setup, &it.number, &it.number));
+    WRONG(nagsched_count(&it.setup.handle, &it.number, &it.number));
     WRONG(nagsched_gather(MINE, MINE));
-    WRONG(nagsched_renew(&it.book, 0, &it.book));
-    WRONG(nagsched_resume(&it.setup, saved, saved_length, 0, 0, &it.setup, &it.refusal));
+    WRONG(nagsched_renew(&it.book, 0, AS(history, &it.book)));
+    WRONG(nagsched_resume(&it.setup, saved, saved_length, 0, 0, AS(book, &it.setup), &it.refusal));
     WRONG(nagsched_running(&it.book, 0, &it.count, &it.count));
-    WRONG(nagsched_open(&it.setup, 0, 0, &it.setup, 1));
-    WRONG(nagsched_open_with(&it.setup, 0, 0, 1, &it.setup, 1));
+    WRONG(nagsched_open(&it.setup.handle, 0, 0, AS(pass, &it.setup), 1));
+    WRONG(nagsched_open_with(&it.setup.handle, 0, 0, 1, AS(pass, &it.setup), 1));
     for (size_t source = 0; source < 2; source++) {
-        struct nagsched_handle *pass = &it.two[1 - source];
-        GIVES(OK, read_setup(&it.two[source]));
-        WRONG(nagsched_open(&it.two[source], 0, 0, it.two, 2));
-        WRONG(nagsched_open_with(&it.two[source], 0, 0, 1, it.two, 2));
+        struct nagsched_pass *pass = AS(pass, &it.two[1 - source]);
+        GIVES(OK, read_setup(AS(setup, &it.two[source])));
+        WRONG(nagsched_open(&it.two[source], 0, 0, AS(pass, it.two), 2));
+        WRONG(nagsched_open_with(&it.two[source], 0, 0, 1, AS(pass, it.two), 2));
         GIVES(OK, nagsched_open(&it.two[source], 0, 0, pass, 1));
-        IS(it.two[source].full == 0 && pass->full != 0);
-        GIVES(OK, nagsched_free(pass));
+        IS(it.two[source].full == 0 && pass->handle.full != 0);
+        GIVES(OK, nagsched_free(&pass->handle));
     }
 }
 
@@ -322,16 +330,16 @@ static void pointers(void) {
 }
 
 static void calls(struct nagsched_handle *other_kind) {
-    NOT_BY(nagsched_try_take, other_kind, 0, &it.reply);
-    NOT_BY(nagsched_try_report, other_kind, 0, 1, 0, &it.reply);
-    NOT_BY(nagsched_try_abandon, other_kind, 0, 1, 0, &it.reply);
-    NOT_BY(nagsched_try_reschedule, other_kind, 0, 0, 0, &it.reply);
-    NOT_BY(nagsched_try_enable, other_kind, 0, 1, &it.reply);
-    NOT_BY(nagsched_try_status, other_kind, 0, &it.reply);
-    NOT_BY(nagsched_glance, other_kind, 0, &it.standing);
-    WRONG(nagsched_gather(MINE, other_kind));
-    WRONG(nagsched_gather(other_kind, MINE));
-    WRONG(nagsched_close(other_kind));
+    NOT_BY(nagsched_try_take, pass, other_kind, 0, &it.reply);
+    NOT_BY(nagsched_try_report, pass, other_kind, 0, 1, 0, &it.reply);
+    NOT_BY(nagsched_try_abandon, pass, other_kind, 0, 1, 0, &it.reply);
+    NOT_BY(nagsched_try_reschedule, pass, other_kind, 0, 0, 0, &it.reply);
+    NOT_BY(nagsched_try_enable, pass, other_kind, 0, 1, &it.reply);
+    NOT_BY(nagsched_try_status, pass, other_kind, 0, &it.reply);
+    NOT_BY(nagsched_glance, pass, other_kind, 0, &it.standing);
+    WRONG(nagsched_gather(MINE, AS(pass, other_kind)));
+    WRONG(nagsched_gather(AS(pass, other_kind), MINE));
+    WRONG(nagsched_close(AS(pass, other_kind), AS(book, &it.empty)));
 }
 
 static void arguments(void) {
@@ -343,30 +351,31 @@ static void arguments(void) {
 
 /* Passes that can't be gathered, and a desk that can't be closed. */
 static void gatherings(void) {
-    WRONG(nagsched_gather(&it.empty, MINE));
-    WRONG(nagsched_gather(MINE, &it.empty));
+    WRONG(nagsched_gather(AS(pass, &it.empty), MINE));
+    WRONG(nagsched_gather(MINE, AS(pass, &it.empty)));
     WRONG(nagsched_gather(MINE, &it.theirs));
     WRONG(nagsched_gather(&it.theirs, MINE));
-    WRONG(nagsched_close(&it.empty));
+    WRONG(nagsched_close(AS(pass, &it.empty), AS(book, &it.empty)));
+    WRONG(nagsched_close(MINE, &it.book));
     memcpy(&was, &it, sizeof it);
-    GIVES(MISSING, nagsched_close(MINE));
-    GIVES(MISSING, nagsched_close(YOURS));
+    GIVES(MISSING, nagsched_close(MINE, AS(book, &it.empty)));
+    GIVES(MISSING, nagsched_close(YOURS, AS(book, &it.empty)));
     IS(memcmp(&was, &it, sizeof it) == 0);
 }
 
 static void histories(void) {
-    NOT_BY(nagsched_entries, &it.setup, &it.count);
-    WRONG(nagsched_entries(MINE, &it.count));
-    NOT_BY(nagsched_entry, &it.setup, 0, &it.entry);
-    WRONG(nagsched_entry(MINE, 0, &it.entry));
-    WRONG(nagsched_entry(&it.book, 1, &it.entry));
-    WRONG(nagsched_entry(&it.history, 1, &it.entry));
-    WRONG(nagsched_entry(&it.book, UINT64_MAX, &it.entry));
-    NOT_BY(nagsched_refused, &it.history, &it.count);
-    WRONG(nagsched_refused(&it.setup, &it.count));
-    NOT_BY(nagsched_renew, &it.setup, 0, &it.empty);
-    WRONG(nagsched_renew(MINE, 0, &it.empty));
-    WRONG(nagsched_renew(&it.history, 0, &it.empty));
+    NOT_BY(nagsched_entries, handle, &it.setup, &it.count);
+    WRONG(nagsched_entries(&MINE->handle, &it.count));
+    NOT_BY(nagsched_entry, handle, &it.setup, 0, &it.entry);
+    WRONG(nagsched_entry(&MINE->handle, 0, &it.entry));
+    WRONG(nagsched_entry(&it.book.handle, 1, &it.entry));
+    WRONG(nagsched_entry(&it.history.handle, 1, &it.entry));
+    WRONG(nagsched_entry(&it.book.handle, UINT64_MAX, &it.entry));
+    NOT_BY(nagsched_refused, book, &it.history, &it.count);
+    WRONG(nagsched_refused(AS(book, &it.setup), &it.count));
+    NOT_BY(nagsched_renew, book, &it.setup, 0, AS(history, &it.empty));
+    WRONG(nagsched_renew(AS(book, MINE), 0, AS(history, &it.empty)));
+    WRONG(nagsched_renew(AS(book, &it.history), 0, AS(history, &it.empty)));
     WRONG(nagsched_renew(&it.book, 0, &it.history));
 }
 
@@ -386,15 +395,15 @@ static void waiting(void) {
     WRONG(nagsched_glance(YOURS, 0, &it.standing));
     WRONG(nagsched_gather(MINE, YOURS));
     WRONG(nagsched_gather(YOURS, MINE));
-    WRONG(nagsched_close(YOURS));
-    WRONG(nagsched_free(YOURS));
+    WRONG(nagsched_close(YOURS, AS(book, &it.empty)));
+    WRONG(nagsched_free(&YOURS->handle));
     /* This pass has a later ticket. */
     GIVES(WAIT, nagsched_try_report(MINE, 0, 1, 2, &reply));
     GIVES(WAIT, nagsched_try_report(MINE, 0, 1, 2, &reply));
     WRONG(nagsched_try_report(MINE, 1, 1, 2, &it.reply));
     WRONG(nagsched_try_report(MINE, 0, 2, 2, &it.reply));
     WRONG(nagsched_try_report(MINE, 0, 1, 1, &it.reply));
-    WRONG(nagsched_free(MINE));
+    WRONG(nagsched_free(&MINE->handle));
     GIVES(OK, nagsched_try_take(YOURS, 7, &reply));
     IS(reply.kind == NAGSCHED_REPLY_TAKEN && reply.object == 1 && reply.run == 2);
     GIVES(OK, nagsched_try_report(MINE, 0, 1, 2, &reply));
@@ -417,7 +426,7 @@ static void refused_calls(void) {
 }
 
 /* The expected history, after all the mistakes. */
-static void history_of(const struct nagsched_handle *book) {
+static void history_of(const struct nagsched_book *book) {
     static const struct { uint64_t pass; uint32_t call, reply; } wanted[] = {
         {0, NAGSCHED_CALL_TAKE, NAGSCHED_REPLY_TAKEN},          {1, NAGSCHED_CALL_TAKE, NAGSCHED_REPLY_TAKEN},
         {0, NAGSCHED_CALL_REPORT, NAGSCHED_REPLY_STANDING},     {0, NAGSCHED_CALL_TAKE, NAGSCHED_REPLY_TIME_RANGE},
@@ -427,10 +436,10 @@ static void history_of(const struct nagsched_handle *book) {
     const uint64_t entries = sizeof wanted / sizeof *wanted;
     struct nagsched_entry entry;
     uint64_t count = 0;
-    GIVES(OK, nagsched_entries(book, &count));
+    GIVES(OK, nagsched_entries(&book->handle, &count));
     IS(count == entries);
     for (uint64_t index = 0; index < entries; index++) {
-        GIVES(OK, nagsched_entry(book, index, &entry));
+        GIVES(OK, nagsched_entry(&book->handle, index, &entry));
         IS(entry.pass == wanted[index].pass && entry.call.kind == wanted[index].call && entry.reply.kind == wanted[index].reply);
     }
     GIVES(OK, nagsched_refused(book, &count));
@@ -439,55 +448,61 @@ static void history_of(const struct nagsched_handle *book) {
 
 /* A pass with one call can't make a second one. */
 static void spent(void) {
-    struct nagsched_handle setup = NAGSCHED_EMPTY, pass = NAGSCHED_EMPTY;
+    struct nagsched_setup setup = NAGSCHED_EMPTY;
+    struct nagsched_pass pass = NAGSCHED_EMPTY;
+    struct nagsched_book book = NAGSCHED_EMPTY;
     GIVES(OK, read_setup(&setup));
-    GIVES(OK, nagsched_open_with(&setup, 0, 10, 1, &pass, 1));
-    IS(setup.full == 0 && pass.full != 0);
+    GIVES(OK, nagsched_open_with(&setup.handle, 0, 10, 1, &pass, 1));
+    IS(setup.handle.full == 0 && pass.handle.full != 0);
     GIVES(OK, nagsched_status(&pass, 0, &it.reply));
     memcpy(&was, &it, sizeof it);
     GIVES(SPENT, nagsched_status(&pass, 0, &it.reply));
     IS(memcmp(&was, &it, sizeof it) == 0);
-    GIVES(OK, nagsched_close(&pass));
-    GIVES(OK, nagsched_entries(&pass, &it.count));
+    GIVES(OK, nagsched_close(&pass, &book));
+    IS(pass.handle.full == 0 && book.handle.full != 0);
+    GIVES(OK, nagsched_entries(&book.handle, &it.count));
     IS(it.count == 1);
-    GIVES(OK, nagsched_free(&pass));
+    GIVES(OK, nagsched_free(&book.handle));
 }
 
 /* Another desk, and a book and a history with an entry each. */
 static void others(void) {
-    struct nagsched_handle setup = NAGSCHED_EMPTY, first = NAGSCHED_EMPTY;
+    struct nagsched_setup setup = NAGSCHED_EMPTY;
+    struct nagsched_pass pass = NAGSCHED_EMPTY;
+    struct nagsched_book first = NAGSCHED_EMPTY;
     GIVES(OK, read_setup(&setup));
-    GIVES(OK, nagsched_open(&setup, 0, 1, &it.theirs, 1));
+    GIVES(OK, nagsched_open(&setup.handle, 0, 1, &it.theirs, 1));
     GIVES(OK, read_setup(&setup));
-    GIVES(OK, nagsched_open(&setup, 0, 1, &first, 1));
-    GIVES(OK, nagsched_take(&first, 0, &it.reply));
-    GIVES(OK, nagsched_close(&first));
+    GIVES(OK, nagsched_open(&setup.handle, 0, 1, &pass, 1));
+    GIVES(OK, nagsched_take(&pass, 0, &it.reply));
+    GIVES(OK, nagsched_close(&pass, &first));
     GIVES(OK, nagsched_renew(&first, 1, &it.history));
-    WRONG(nagsched_open(&first, 1, 0, it.two, 2));
-    WRONG(nagsched_open(&first, 0, 1, it.two, 2));
-    GIVES(OK, nagsched_open(&first, 0, 0, &it.book, 1));
-    IS(first.full == 0);
-    GIVES(OK, nagsched_report(&it.book, 0, 1, 0, &it.reply));
+    WRONG(nagsched_open(&first.handle, 1, 0, AS(pass, it.two), 2));
+    WRONG(nagsched_open(&first.handle, 0, 1, AS(pass, it.two), 2));
+    GIVES(OK, nagsched_open(&first.handle, 0, 0, &pass, 1));
+    IS(first.handle.full == 0);
+    GIVES(OK, nagsched_report(&pass, 0, 1, NAGSCHED_CODE_OK, &it.reply));
     IS(it.reply.kind == NAGSCHED_REPLY_STANDING);
-    GIVES(OK, nagsched_close(&it.book));
+    GIVES(OK, nagsched_close(&pass, &it.book));
 }
 
 int main(void) {
-    struct nagsched_handle setup = NAGSCHED_EMPTY;
+    struct nagsched_setup setup = NAGSCHED_EMPTY;
+    struct nagsched_book book = NAGSCHED_EMPTY;
     IS(nagsched_version() == NAGSCHED_VERSION);
     others();
     GIVES(OK, read_setup(&it.setup));
     GIVES(OK, read_setup(&setup));
-    GIVES(OK, nagsched_open(&setup, 0, 0, it.of_desk, 2));
+    GIVES(OK, nagsched_open(&setup.handle, 0, 0, it.of_desk, 2));
     readings();
     texts();
     names();
     openings();
     savings();
     pointers();
-    calls(&it.setup);
-    calls(&it.book);
-    calls(&it.history);
+    calls(&it.setup.handle);
+    calls(&it.book.handle);
+    calls(&it.history.handle);
     arguments();
     gatherings();
     histories();
@@ -495,17 +510,18 @@ int main(void) {
     refused_calls();
     gatherings();
     GIVES(OK, nagsched_gather(MINE, YOURS));
-    IS(YOURS->full == 0);
+    IS(YOURS->handle.full == 0);
     WRONG(nagsched_gather(MINE, YOURS));
-    GIVES(OK, nagsched_close(MINE));
-    history_of(MINE);
+    GIVES(OK, nagsched_close(MINE, &book));
+    IS(MINE->handle.full == 0);
+    history_of(&book);
     spent();
     GIVES(OK, nagsched_free(&it.empty));
-    GIVES(OK, nagsched_free(&it.setup));
-    GIVES(OK, nagsched_free(&it.setup));
-    GIVES(OK, nagsched_free(MINE));
-    GIVES(OK, nagsched_free(&it.theirs));
-    GIVES(OK, nagsched_free(&it.book));
-    GIVES(OK, nagsched_free(&it.history));
+    GIVES(OK, nagsched_free(&it.setup.handle));
+    GIVES(OK, nagsched_free(&it.setup.handle));
+    GIVES(OK, nagsched_free(&book.handle));
+    GIVES(OK, nagsched_free(&it.theirs.handle));
+    GIVES(OK, nagsched_free(&it.book.handle));
+    GIVES(OK, nagsched_free(&it.history.handle));
     return told("wrong");
 }

@@ -15,6 +15,9 @@ from .records import Call, Entry, Reply, Run, Standing
 
 _Self = typing.TypeVar("_Self", bound="_HandleOwner")
 
+# A number that no kind of reply has.
+_NO_KIND = max(ReplyKind) + 1
+
 
 class _HandleOwner:
     """An object with a handle of the library, which it frees at the end of a `with`, or when Python deletes the object."""
@@ -197,7 +200,7 @@ class Pass(_ObjectNames):
         """Makes one of the six calls. An interrupt that comes meanwhile is raised when the call has its reply: if the call stopped before,
         its turn would stop every other pass."""
         with _ExclusiveCall(self._call_lock):
-            reply, unanswered, status, interrupt = ReplyStruct(kind=len(ReplyKind)), len(ReplyKind), None, None
+            reply, unanswered, status, interrupt = ReplyStruct(kind=_NO_KIND), _NO_KIND, None, None
             while status is None:
                 try:
                     while (status := attempt(self._handle, *given, ctypes.byref(reply))) == Result.WAIT:
@@ -294,6 +297,6 @@ class Desk:
             with _ExclusiveCall(other._call_lock):
                 first._call(LIBRARY.gather, "a pass can't be gathered now", other._handle)
             self._open_passes.pop()
-        first._call(LIBRARY.close, "the desk can't be closed now")
-        handle, first._handle = first._handle, HandleStruct()
+        handle = HandleStruct()
+        first._call(LIBRARY.close, "the desk can't be closed now", handle)
         return Book(handle)

@@ -2,7 +2,7 @@
 import enum
 
 # The version of the library's interface that this package needs.
-VERSION = 2
+VERSION = 3
 
 
 class Result(enum.IntEnum):
@@ -57,7 +57,7 @@ class CallKind(enum.IntEnum):
 
 
 class ReplyKind(enum.IntEnum):
-    """The replies. From UNKNOWN_OBJECT on, the call was refused and changed nothing."""
+    """The replies. From 100 on, the call was refused and changed nothing."""
 
     TAKEN = 0
     PUT_OFF = 1
@@ -66,36 +66,36 @@ class ReplyKind(enum.IntEnum):
     STANDING = 4
     FREED = 5
     DONE = 6
-    UNKNOWN_OBJECT = 7
-    TIME_RANGE = 8
-    NOT_RUNNING = 9
-    WRONG_RUN = 10
-    RUNS_SPENT = 11
+    UNKNOWN_OBJECT = 101
+    TIME_RANGE = 102
+    NOT_RUNNING = 103
+    WRONG_RUN = 104
+    RUNS_SPENT = 105
 
 
 class RefusalKind(enum.IntEnum):
-    """Why a document is no setup, or, from SAVED_TOO_LONG on, why a text is no saved state."""
+    """Why a document is no setup, from 200 on, or a text no saved state, from 300 on. The number is that of the refusal's line: 205 for L5."""
 
-    TOO_LONG = 0
-    NOT_JSON = 1
-    SHAPE = 2
-    TOO_MANY = 3
-    BAD_NAME = 4
-    DUPLICATE = 5
-    UNKNOWN_HOST = 6
-    UNKNOWN_MASTER = 7
-    RANGE = 8
-    DEPENDENCY_CYCLE = 9
-    PARENT_CYCLE = 10
-    SAVED_TOO_LONG = 11
-    SAVED_NOT_JSON = 12
-    SAVED_VERSION = 13
-    SAVED_SHAPE = 14
-    SAVED_TOO_MANY = 15
-    SAVED_BAD_NAME = 16
-    SAVED_DUPLICATE = 17
-    SAVED_RANGE = 18
-    SAVED_UNLAWFUL = 19
+    NOT_JSON = 201
+    SHAPE = 202
+    TOO_MANY = 203
+    BAD_NAME = 204
+    DUPLICATE = 205
+    UNKNOWN_HOST = 206
+    UNKNOWN_MASTER = 207
+    RANGE = 208
+    DEPENDENCY_CYCLE = 209
+    PARENT_CYCLE = 210
+    TOO_LONG = 212
+    SAVED_TOO_LONG = 301
+    SAVED_NOT_JSON = 302
+    SAVED_VERSION = 303
+    SAVED_SHAPE = 304
+    SAVED_TOO_MANY = 305
+    SAVED_BAD_NAME = 306
+    SAVED_DUPLICATE = 307
+    SAVED_RANGE = 308
+    SAVED_UNLAWFUL = 309
 
 
 class Part(enum.IntEnum):

@@ -99,7 +99,7 @@ FUNCTIONS = {
     "try_status": [_HANDLE, U32, _OUT_REPLY],
     "glance": [_HANDLE, U32, ctypes.POINTER(StandingStruct)],
     "gather": [_HANDLE, _HANDLE],
-    "close": [_HANDLE],
+    "close": [_HANDLE, _HANDLE],
     "entries": [_HANDLE, _OUT64],
     "entry": [_HANDLE, U64, ctypes.POINTER(EntryStruct)],
     "refused": [_HANDLE, _OUT64],

@@ -39,7 +39,7 @@ pub use status::numbers_of_statuses;
 /// The version of the interface in `nagsched.h`.
 #[unsafe(no_mangle)]
 pub extern "C" fn nagsched_version() -> u32
-    ensures { result ≡ 2 }
+    ensures { result ≡ 3 }
 {
-    2
+    3
 }

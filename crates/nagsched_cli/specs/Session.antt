@@ -6,6 +6,8 @@ use Rattle.nagsched_protocol.specs.declared.drive_error.DriveError.{DriveError}
 use Rattle.nagsched_protocol.specs.declared.drive_error.DriveError.TheVariants as errors
 use Rattle.nagsched_protocol.specs.declared.outcome.Outcome.{Outcome}
 use Rattle.nagsched_protocol.specs.declared.outcome.Outcome.TheVariants as outcome
+use Rattle.setup_model.specs.Members.{document_members}
+use Rattle.setup_diagnostics.specs.Schema.{NamesAll}
 use Rattle.nagsched_cli.specs.declared.session.Ending.{Ending}
 use Rattle.nagsched_cli.specs.declared.session.Ending.TheVariants as ending
 use Rattle.nagsched_cli.specs.declared.arguments.Job.{Job}
@@ -28,9 +30,10 @@ IsJobTextOutput text (Err errors.Write) held holds = WroteFront held holds text
 IsJobTextOutput text (Err errors.Memory) held holds = holds ≡ held
 IsJobTextOutput text (Err errors.Read) held holds = ⊥
 
--- the schema is some text; nothing more is said about it
+-- the output is a schema that names every member of a setup; out of memory it is nothing
 abbrev pub IsSchemaOutput : Result Outcome DriveError → Option (List ℕ) → Option (List ℕ) → Type 0
-IsSchemaOutput ended held holds = (schema : List ℕ) × IsJobTextOutput schema ended held holds
+IsSchemaOutput (Err errors.Memory) held holds = holds ≡ held
+IsSchemaOutput ended held holds = (schema : List ℕ) × NamesAll document_members schema × IsJobTextOutput schema ended held holds
 
 -- The effects of a job that ended like this, with or without a fault: the function of the job states them.
 abbrev pub JobEnded : Job → Result Outcome DriveError → Streams → Type 0

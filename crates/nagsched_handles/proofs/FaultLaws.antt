@@ -1,6 +1,5 @@
 -- Nothing is lost of a refusal of a saved state on the way to C.
-use Rattle.std.proofs.Common.{◌≡◌, ◌∙◌, true, false, refl, sym, ap}
-use Rattle.std.specs.Prelude.{nat_le}
+use Rattle.std.proofs.Common.{◌≡◌, ◌∙◌, ◌==◌, true, false, refl, sym, ap}
 use mathlib.Core.Logic.{◌≢◌}
 use Rattle.setup_model.specs.declared.error.LoadError.{LoadError}
 use Rattle.setup_model.specs.declared.error.LoadError.TheVariants as load
@@ -51,4 +50,4 @@ apart e f same =
     let out : e ≡ load.Memory = sym (refusal_is e) ∙ ap refusal_from_c same ∙ no_document f in
     let same' : c_refusal load.Memory ≡ c_fault f = sym (ap c_refusal out) ∙ same in
     let out' : fault.Memory ≡ f = ap fault_from_c same' ∙ fault_is f in
-    let both : true ≡ false = ap (λ p. nat_le (error_number load.Memory) p.kind) (same' ∙ sym (ap c_fault out')) in cc
+    let both : true ≡ false = ap (λ p. error_number load.Memory == p.kind) (same' ∙ sym (ap c_fault out')) in cc

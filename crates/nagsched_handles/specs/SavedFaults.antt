@@ -1,4 +1,4 @@
--- The structs of refusals of a saved state. They have the form of a document's refusals, and later kinds.
+-- The structs of refusals of a saved state. They have the form of a document's refusals, and other kinds.
 use Rattle.std.specs.Prelude.{◌≢◌, ℕ, ◌==◌, cond, Option, Some, None}
 use Rattle.check_saved_state.specs.declared.fault.SavedFault.{SavedFault}
 use Rattle.check_saved_state.specs.declared.fault.SavedFault.TheVariants as fault

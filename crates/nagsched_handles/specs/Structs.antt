@@ -137,7 +137,7 @@ abbrev pub refusal_of_place : ℕ → Option Place → CRefusal
 refusal_of_place kind None = refusal_without_place kind
 refusal_of_place kind (Some p) = refusal_at kind p
 
--- out of memory is a status, and no function writes its struct; its kind comes after those of a saved state's refusals
+-- out of memory is a status, and no function writes its struct
 abbrev pub c_refusal : LoadError → CRefusal
 c_refusal e = refusal_of_place (error_number e) (place_of e)
 

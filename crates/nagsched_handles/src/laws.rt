@@ -55,24 +55,24 @@ pub fn numbers_of_replies()
     ensures standing { REPLY_STANDING ≡ 4 }
     ensures freed { REPLY_FREED ≡ 5 }
     ensures done { REPLY_DONE ≡ 6 }
-    ensures unknown_object { REPLY_UNKNOWN_OBJECT ≡ 7 }
-    ensures time_range { REPLY_TIME_RANGE ≡ 8 }
-    ensures not_running { REPLY_NOT_RUNNING ≡ 9 }
-    ensures wrong_run { REPLY_WRONG_RUN ≡ 10 }
-    ensures runs_spent { REPLY_RUNS_SPENT ≡ 11 }
+    ensures unknown_object { REPLY_UNKNOWN_OBJECT ≡ 101 }
+    ensures time_range { REPLY_TIME_RANGE ≡ 102 }
+    ensures not_running { REPLY_NOT_RUNNING ≡ 103 }
+    ensures wrong_run { REPLY_WRONG_RUN ≡ 104 }
+    ensures runs_spent { REPLY_RUNS_SPENT ≡ 105 }
 {}
 
 /// The number of each refusal of a saved state, as in the header. The header doesn't have the last number: out
 /// of memory is a status for C.
 pub fn numbers_of_refusals()
-    ensures saved_too_long { REFUSAL_SAVED_TOO_LONG ≡ 11 }
-    ensures saved_not_json { REFUSAL_SAVED_NOT_JSON ≡ 12 }
-    ensures saved_version { REFUSAL_SAVED_VERSION ≡ 13 }
-    ensures saved_shape { REFUSAL_SAVED_SHAPE ≡ 14 }
-    ensures saved_too_many { REFUSAL_SAVED_TOO_MANY ≡ 15 }
-    ensures saved_bad_name { REFUSAL_SAVED_BAD_NAME ≡ 16 }
-    ensures saved_duplicate { REFUSAL_SAVED_DUPLICATE ≡ 17 }
-    ensures saved_range { REFUSAL_SAVED_RANGE ≡ 18 }
-    ensures saved_unlawful { REFUSAL_SAVED_UNLAWFUL ≡ 19 }
-    ensures saved_memory { REFUSAL_SAVED_MEMORY ≡ 20 }
+    ensures saved_too_long { REFUSAL_SAVED_TOO_LONG ≡ 301 }
+    ensures saved_not_json { REFUSAL_SAVED_NOT_JSON ≡ 302 }
+    ensures saved_version { REFUSAL_SAVED_VERSION ≡ 303 }
+    ensures saved_shape { REFUSAL_SAVED_SHAPE ≡ 304 }
+    ensures saved_too_many { REFUSAL_SAVED_TOO_MANY ≡ 305 }
+    ensures saved_bad_name { REFUSAL_SAVED_BAD_NAME ≡ 306 }
+    ensures saved_duplicate { REFUSAL_SAVED_DUPLICATE ≡ 307 }
+    ensures saved_range { REFUSAL_SAVED_RANGE ≡ 308 }
+    ensures saved_unlawful { REFUSAL_SAVED_UNLAWFUL ≡ 309 }
+    ensures saved_memory { REFUSAL_SAVED_MEMORY ≡ 901 }
 {}

@@ -53,7 +53,7 @@ pub struct CCall {
 #[repr(C)]
 #[derive(Clone, Copy, PartialEq)]
 pub struct CReply {
-    /// Taken, put off, idle, at limit, standing, freed and done are 0 to 6; 7 to 11 are refusals.
+    /// Taken, put off, idle, at limit, standing, freed and done are 0 to 6; refusals are 101 to 105.
     pub kind: u32,
     /// The number of the object, for taken and put off.
     pub object: u32,
@@ -85,7 +85,7 @@ pub struct CEntry {
 #[repr(C)]
 #[derive(Clone, Copy, PartialEq)]
 pub struct CRefusal {
-    /// The reason: 0 to 10 for a document, 11 to 19 for a saved state.
+    /// The reason: 201 to 212 for a document, 301 to 309 for a saved state.
     pub kind: u32,
     /// The part of the document, 1 to 6. It is 0 if the kind has no place, and for a saved state.
     pub part: u32,

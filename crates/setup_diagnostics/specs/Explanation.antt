@@ -20,7 +20,7 @@ tree_or_null (Some tree) = tree
 abbrev pub too_long_text : List ℕ
 too_long_text = codes "the document has more than " ++ (decimal 16777216 ++ codes " bytes")
 
--- the whole line; `IsShapeText` defines it for a value of another kind, and `IsNotJsonText` for the position at which reading stops
+-- the whole line; `IsShapeText` defines it for a fault of shape, and `IsNotJsonText` for the position at which reading stops
 abbrev pub IsExplanation : Data → Fault → List ℕ → Type 0
 IsExplanation tree fault.too_long text = text ≡ too_long_text
 IsExplanation tree fault.not_json text = Unit {0}
@@ -32,8 +32,8 @@ IsExplanation tree (fault.unknown_parent h i) text = text ≡ unknown_parent_tex
 IsExplanation tree (fault.unknown_host s) text = text ≡ unknown_host_text tree s
 IsExplanation tree (fault.unknown_end p w) text = text ≡ unknown_end_text tree p w
 IsExplanation tree (fault.range p w) text = text ≡ range_text tree p w
-IsExplanation tree (fault.dependency_cycle p cycle) text = text ≡ dependency_cycle_text tree p cycle
-IsExplanation tree (fault.parent_cycle cycle) text = text ≡ parent_cycle_text tree cycle
+IsExplanation tree (fault.dependency_cycle p cycle) text = text ≡ dependency_cycle_text p cycle
+IsExplanation tree (fault.parent_cycle cycle) text = text ≡ parent_cycle_text cycle
 IsExplanation tree fault.memory text = text ≡ codes "memory ran out; that says nothing of the document"
 
 abbrev pub stop_reason_words : Bool → List ℕ

@@ -1,5 +1,5 @@
 -- The names that the schema of a setup contains.
-use Rattle.std.specs.Prelude.{◌≡◌, ℕ, List, [], ◌∷◌, ◌++◌}
+use Rattle.std.specs.Prelude.{◌≡◌, ℕ, List, [], ◌∷◌, ◌++◌, codes, decimal}
 use Rattle.json.specs.Print.{quoted}
 use Rattle.setup_model.specs.declared.member.Kind.{Kind}
 use Rattle.setup_model.specs.declared.member.Kind.TheVariants as kind
@@ -13,6 +13,15 @@ pub record ContainsText (part text : List ℕ) : Type 0 where
   pub before : List ℕ
   pub after : List ℕ
   pub is : text ≡ before ++ (part ++ after)
+
+-- a text that ends with this one
+pub record EndsWith (part text : List ℕ) : Type 0 where
+  pub before : List ℕ
+  pub is : text ≡ before ++ part
+
+-- a member of the schema whose value is this number
+abbrev pub number_member : List ℕ → ℕ → List ℕ
+number_member name n = (quoted name ++ codes ": ") ++ decimal n
 
 -- each of these members is named
 abbrev pub NamesEach : List Row → List ℕ → Type 0

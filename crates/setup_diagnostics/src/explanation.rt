@@ -66,8 +66,8 @@ fn push_fault(alloc: Global, line: &mut Line, tree: &Value, fault: &Fault) -> Pu
         Fault::UnknownHost(service) => push_unknown_host(line, tree, *service),
         Fault::UnknownEnd(place, end) => push_unknown_end(line, tree, *place, *end),
         Fault::Range(place, range) => push_range(line, tree, *place, *range),
-        Fault::DependencyCycle(part, cycle) => push_dependency_cycle(line, tree, *part, cycle),
-        Fault::ParentCycle(cycle) => push_parent_cycle(line, tree, cycle),
+        Fault::DependencyCycle(part, cycle) => push_dependency_cycle(line, *part, cycle),
+        Fault::ParentCycle(cycle) => push_parent_cycle(line, cycle),
         Fault::Memory => line.push_words("memory ran out; that says nothing of the document"),
     }
 }

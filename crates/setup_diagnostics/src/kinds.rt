@@ -1,8 +1,11 @@
 //! Writes kinds of members, and values.
 
-ghost use Rattle.std.specs.Prelude.{◌≡◌, ◌++◌, OnOk, false};
+ghost use Rattle.std.specs.Prelude.{◌≡◌, OnOk, false, option_map};
+ghost use Rattle.serde_json.specs.View.{number_view, view};
+ghost use Rattle.serde_json.specs.Data.{number};
+ghost use Rattle.serde_json.specs.Written.{compact_text, has_float};
 ghost use Rattle.setup_diagnostics.specs.Feeds.{has_line_feed};
-ghost use Rattle.setup_diagnostics.specs.Shapes.{BeginsWith};
+ghost use Rattle.setup_diagnostics.specs.Shapes.{kind_text, Appends, IsShown, IsValueText};
 
 use crate::line::{Line, Pushed};
 use serde_json::Value;
@@ -11,7 +14,8 @@ use std::alloc::Global;
 
 /// A kind in words, as the end of a sentence.
 pub(crate) fn kind_words(kind: Kind) -> &'static str
-    ensures { has_line_feed result.now ≡ false }
+    ensures text { result.now ≡ kind_text kind }
+    ensures no_line_feed { has_line_feed result.now ≡ false }
 {
     match kind {
         Kind::Part(_) => "a part of the document",
@@ -26,9 +30,19 @@ pub(crate) fn kind_words(kind: Kind) -> &'static str
     }
 }
 
+/// Appends a value, if there is one.
+pub(crate) fn push_shown(alloc: Global, line: &mut Line, value: Option<&Value>) -> Pushed
+    ensures { OnOk result (Appends (IsShown (option_map (λ v. view v.now) value.entry)) line.old line.new) }
+{
+    match value {
+        Some(value) => push_value(alloc, line, value),
+        None => Ok(()),
+    }
+}
+
 /// Appends a value. For an array or an object it appends only which of the two it is.
-pub(crate) fn push_value(alloc: Global, line: &mut Line, value: &Value) -> Pushed
-    ensures { OnOk result (BeginsWith line.old line.new) }
+fn push_value(alloc: Global, line: &mut Line, value: &Value) -> Pushed
+    ensures { OnOk result (Appends (IsValueText (view value.now)) line.old line.new) }
 {
     match value {
         Value::Null => line.push_words("null"),
@@ -41,8 +55,10 @@ pub(crate) fn push_value(alloc: Global, line: &mut Line, value: &Value) -> Pushe
     }
 }
 
+/// Appends a value that is a number.
 fn push_any_number(alloc: Global, line: &mut Line, value: &Value) -> Pushed
-    ensures { OnOk result (BeginsWith line.old line.new) }
+    ensures { OnOk result (Appends (λ text. has_float (view value.now) ≡ false
+        → text ≡ compact_text (view value.now)) line.old line.new) }
 {
     let number = value.to_string(alloc)?;
     line.push_words(number.as_str())

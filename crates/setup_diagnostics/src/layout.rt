@@ -1,8 +1,8 @@
 //! JSON text with a layout: one line per member, indented by two spaces for each object around it.
 
-ghost use Rattle.std.specs.Prelude.{◌≡◌, ◌++◌, IfOk, OnOk, string_bytes};
+ghost use Rattle.std.specs.Prelude.{◌≡◌, ◌++◌, IfOk, OnOk, codes, decimal, string_bytes};
 ghost use Rattle.json.specs.Print.{quoted};
-ghost use Rattle.setup_diagnostics.specs.{Schema.ContainsText, Shapes.BeginsWith};
+ghost use Rattle.setup_diagnostics.specs.{Schema.ContainsText, Schema.EndsWith, Schema.number_member, Shapes.BeginsWith};
 
 use crate::line::Pushed;
 use itoa::Buffer;
@@ -66,6 +66,7 @@ impl Layout {
     pub(crate) fn begin(&mut self, name: &str) -> Pushed
         ensures extends { OnOk result (BeginsWith self.old self.new) }
         ensures named { OnOk result (ContainsText (quoted name.now) self.new) }
+        ensures ends { OnOk result (EndsWith (quoted name.now ++ codes ": ") self.new) }
     {
         if self.has_member {
             self.push_json(",")?;
@@ -85,7 +86,7 @@ impl Layout {
 
     /// Appends a number.
     pub(crate) fn push_number(&mut self, number: u64) -> Pushed
-        ensures { OnOk result (BeginsWith self.old self.new) }
+        ensures { OnOk result (self.new ≡ self.old ++ decimal number) }
     {
         let mut buffer = Buffer::new();
         self.push_json(buffer.format(number))
@@ -110,7 +111,8 @@ impl Layout {
 
     /// A member whose value is a number.
     pub(crate) fn number(&mut self, name: &str, number: u64) -> Pushed
-        ensures { OnOk result (BeginsWith self.old self.new) }
+        ensures extends { OnOk result (BeginsWith self.old self.new) }
+        ensures written { OnOk result (ContainsText (number_member name.now number) self.new) }
     {
         self.begin(name)?;
         self.push_number(number)

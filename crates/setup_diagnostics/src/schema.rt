@@ -1,9 +1,9 @@
 //! The JSON schema of a setup document, from the table of its members.
 
-ghost use Rattle.std.specs.Prelude.{IfOk, OnOk, map, string_bytes, ◌≡◌};
+ghost use Rattle.std.specs.Prelude.{IfOk, OnOk, codes, map, string_bytes, ◌≡◌};
 ghost use Rattle.setup_model.specs.Member.{as_row};
 ghost use Rattle.setup_model.specs.Members.{document_members};
-ghost use Rattle.setup_diagnostics.specs.Schema.{inner_members, NamesAll, NamesEach, NamesInner};
+ghost use Rattle.setup_diagnostics.specs.Schema.{inner_members, number_member, ContainsText, NamesAll, NamesEach, NamesInner};
 ghost use Rattle.setup_diagnostics.specs.Shapes.{BeginsWith};
 
 use crate::layout::Layout;
@@ -235,7 +235,9 @@ fn push_texts(layout: &mut Layout) -> Pushed
 }
 
 fn push_number(layout: &mut Layout, low: u64, high: u64) -> Pushed
-    ensures { OnOk result (BeginsWith layout.old layout.new) }
+    ensures extends { OnOk result (BeginsWith layout.old layout.new) }
+    ensures least { OnOk result (ContainsText (number_member (codes "minimum") low) layout.new) }
+    ensures greatest { OnOk result (ContainsText (number_member (codes "maximum") high) layout.new) }
 {
     layout.text("type", "integer")?;
     layout.number("minimum", low)?;

@@ -1,14 +1,19 @@
 //! Faults of shape: a member that is unknown, missing or of another kind.
 
-ghost use Rattle.std.specs.Prelude.{◌≡◌, ◌++◌, [], OnOk, Some, codes, false, option_map, slice_get};
+ghost use Rattle.std.specs.Prelude.{◌≡◌, ◌++◌, [], OnOk, Some, codes, false, option_and_then, option_map, slice_get};
 ghost use Rattle.std.specs.BTreeMap.{keys};
 ghost use Rattle.serde_json.specs.View.{members_view, view};
 ghost use Rattle.setup_model.specs.Fault.{shape_view};
+ghost use Rattle.setup_model.specs.Member.{as_row};
+ghost use Rattle.serde_json.specs.Data.{Items};
+ghost use Rattle.serde_json.specs.Find.{as_array, get};
+ghost use Rattle.serde_json.specs.View.{items_view};
+ghost use Rattle.setup_reader.specs.Places.{value_at};
 ghost use Rattle.setup_diagnostics.specs.Feeds.{has_line_feed};
-ghost use Rattle.setup_diagnostics.specs.Shapes.{nth_member_name, member_name_at, missing_text, unknown_text, BeginsWith, IsShapeText};
+ghost use Rattle.setup_diagnostics.specs.Shapes.{nth_member_name, member_name_at, first_wrong_text, kind_text, missing_text, unknown_text, Appends, IsItemFault, IsKindFault, IsMemberFault, IsShapeFault, IsShapeText, IsWrongMember};
 ghost use Rattle.setup_diagnostics.specs.Excerpts.{quotation};
 
-use crate::kinds::{kind_words, push_value};
+use crate::kinds::{kind_words, push_shown};
 use crate::line::{Line, Pushed};
 use crate::places::push_place;
 use serde_json::{Map, Value};
@@ -28,24 +33,49 @@ pub(crate) fn push_shape(
         → IsShapeText (view tree.now) place (shape_view fault) line.new) }
 {
     push_place(line, tree, place)?;
+    push_shape_fault(alloc, line, tree, place, fault)
+}
+
+/// Appends a fault in the shape of the value at a place, without the place.
+fn push_shape_fault(
+    alloc: Global,
+    line: &mut Line,
+    tree: &Value,
+    place: Place,
+    fault: ShapeFault,
+) -> Pushed
+    ensures { OnOk result (Appends (IsShapeFault (view tree.now) place (shape_view fault)) line.old line.new) }
+{
     match fault {
-        ShapeFault::NotAnArray => push_wrong_kind(alloc, line, tree, place, "an array"),
-        ShapeFault::NotAnObject => push_wrong_kind(alloc, line, tree, place, "an object"),
+        ShapeFault::NotAnArray => {
+            push_kind_fault(alloc, line, "this is ", value_at(tree, place), "an array")
+        }
+        ShapeFault::NotAnObject => {
+            push_kind_fault(alloc, line, "this is ", value_at(tree, place), "an object")
+        }
         ShapeFault::Unknown(index) => push_unknown(line, tree, place, index),
         ShapeFault::Missing(member) => push_missing(line, member),
-        ShapeFault::WrongKind(member) => push_wrong_member(alloc, line, tree, place, member),
+        ShapeFault::WrongKind(member) => {
+            push_wrong_member(alloc, line, value_at(tree, place), member)
+        }
     }
 }
 
-/// Appends that a value isn't of this kind.
-fn push_wrong_kind(alloc: Global, line: &mut Line, tree: &Value, place: Place, kind: &str) -> Pushed
-    requires { has_line_feed kind.now ≡ false }
-    ensures { OnOk result (BeginsWith (line.old ++ codes "this is ") line.new) }
+/// Appends these words, a value, and the kind that it must have.
+fn push_kind_fault(
+    alloc: Global,
+    line: &mut Line,
+    words: &str,
+    value: Option<&Value>,
+    kind: &str,
+) -> Pushed
+    requires words { has_line_feed words.now ≡ false }
+    requires kind { has_line_feed kind.now ≡ false }
+    ensures { OnOk result (Appends (IsKindFault words.now (option_map (λ v. view v.now) value.entry) kind.now)
+        line.old line.new) }
 {
-    line.push_words("this is ")?;
-    if let Some(value) = value_at(tree, place) {
-        push_value(alloc, line, value)?;
-    }
+    line.push_words(words)?;
+    push_shown(alloc, line, value)?;
     line.push_words("; it has to be ")?;
     line.push_words(kind)
 }
@@ -95,52 +125,57 @@ fn push_missing(line: &mut Line, member: Member) -> Pushed
 fn push_wrong_member(
     alloc: Global,
     line: &mut Line,
-    tree: &Value,
-    place: Place,
+    object: Option<&Value>,
     member: Member,
 ) -> Pushed
-    ensures { OnOk result (BeginsWith (line.old ++ quotation member.name.now) line.new) }
+    ensures { OnOk result (Appends (IsWrongMember (as_row member) (option_map (λ v. view v.now) object.entry))
+        line.old line.new) }
 {
     line.push_text(member.name)?;
-    match value_at(tree, place).and_then(|object| object.get(member.name)) {
-        Some(value) => push_other_kind(alloc, line, value, member.kind),
+    match member_value(object, member.name) {
+        Some(value) => push_member_fault(alloc, line, value, member.kind),
         None => Ok(()),
     }
 }
 
+/// A member of an object, if both are there.
+fn member_value<'v>(object: Option<&'v Value>, name: &str) -> Option<&'v Value>
+    ensures { option_map (λ v. view v.now) result
+        ≡ option_and_then (get name.now) (option_map (λ v. view v.now) object.entry) }
+{
+    object.and_then(|object| object.get(name))
+}
+
 /// Appends the kind of a value, and the kind that it must have.
-fn push_other_kind(alloc: Global, line: &mut Line, value: &Value, kind: Kind) -> Pushed
-    ensures { OnOk result (BeginsWith line.old line.new) }
+fn push_member_fault(alloc: Global, line: &mut Line, value: &Value, kind: Kind) -> Pushed
+    ensures { OnOk result (Appends (IsMemberFault kind (as_array (view value.now)) (view value.now))
+        line.old line.new) }
 {
     match (kind, value.as_array()) {
-        (Kind::Texts, Some(values)) => push_wrong_text(alloc, line, values),
-        _ => {
-            line.push_words(" is ")?;
-            push_value(alloc, line, value)?;
-            line.push_words("; it has to be ")?;
-            line.push_words(kind_words(kind))
-        }
+        (Kind::Texts, Some(values)) => push_item_fault(alloc, line, values),
+        _ => push_kind_fault(alloc, line, " is ", Some(value), kind_words(kind)),
     }
 }
 
 /// Appends the first value of an array of texts that isn't a text.
-fn push_wrong_text(alloc: Global, line: &mut Line, values: &[Value]) -> Pushed
-    ensures { OnOk result (BeginsWith line.old line.new) }
+fn push_item_fault(alloc: Global, line: &mut Line, values: &[Value]) -> Pushed
+    ensures { OnOk result (Appends (IsItemFault (first_wrong_text 0 (items_view values.now))) line.old line.new) }
 {
     match first_wrong_text(values) {
         Some((index, value)) => {
             line.push_words(" ")?;
             line.push_number(index as u64)?;
-            line.push_words(" is ")?;
-            push_value(alloc, line, value)?;
-            line.push_words("; it has to be a text")
+            push_kind_fault(alloc, line, " is ", Some(value), "a text")
         }
         None => Ok(()),
     }
 }
 
 /// The first of these values that isn't a text, and its index.
-fn first_wrong_text(values: &[Value]) -> Option<(usize, &Value)> {
+fn first_wrong_text(values: &[Value]) -> Option<(usize, &Value)>
+    ensures { option_map (λ found. (found.0, view found.1.now)) result
+        ≡ first_wrong_text 0 (items_view values.now) }
+{
     for (index, value) in values.iter().enumerate() {
         if value.as_str().is_none() {
             return Some((index, value));

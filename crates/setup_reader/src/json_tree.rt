@@ -1,9 +1,11 @@
 //! Looks into the tree that `serde_json` reads from a document.
 
-ghost use Rattle.std.specs.Prelude.{◌≡◌, map, option_map, ok_or, is_some, bytes_eq};
+ghost use Rattle.std.specs.Prelude.{◌≡◌, ◌↔◌, IsTrue, map, option_map, ok_or, is_some, bytes_eq};
 ghost use Rattle.std.specs.List.{list_all, list_any};
 ghost use Rattle.serde_json.specs.View.{view};
 ghost use Rattle.serde_json.specs.Find.{as_str};
+ghost use Rattle.serde_json.specs.Errors.{category};
+ghost use Rattle.serde_json.specs.declared.error.Category.TheVariants.{Eof};
 ghost use Rattle.setup_reader.specs.JsonTree.{tree_of, member_value, number_at, switch_at, text_at, texts_at, texts_in};
 ghost use Rattle.setup_model.specs.Member.{as_row};
 ghost use Rattle.setup_model.specs.Text.{text};
@@ -29,7 +31,10 @@ pub fn read_tree(alloc: Global, bytes: &[u8]) -> Result<Value, Fault>
 }
 
 /// The line and the column at which reading stopped.
-fn json_position(error: &Error) -> JsonPosition {
+// `serde_json` promises nothing of the two.
+fn json_position(error: &Error) -> JsonPosition
+    ensures { IsTrue result.is_at_end ↔ (category error.now ≡ Eof) }
+{
     JsonPosition {
         line: error.line(),
         column: error.column(),
