@@ -227,9 +227,10 @@ enum nagsched_result nagsched_read(const char *document, size_t bytes, struct na
  * OK. WRONG, with length: the line is longer than room, and nothing else is written. WRONG: a struct that no function returns. NO_MEMORY.
  * They allocate memory, and free it before they return. */
 enum nagsched_result nagsched_refusal_text(const struct nagsched_refusal *refusal, char *text, size_t room, size_t *length);
-enum nagsched_result nagsched_reply_text(const struct nagsched_handle *named, const struct nagsched_call *call, const struct nagsched_reply *reply, char *text,
-                             size_t room, size_t *length);
-enum nagsched_result nagsched_entry_text(const struct nagsched_handle *named, const struct nagsched_entry *entry, char *text, size_t room, size_t *length);
+enum nagsched_result nagsched_reply_text(const struct nagsched_handle *named, const struct nagsched_call *call, const struct nagsched_reply *reply,
+                                         char *text, size_t room, size_t *length);
+enum nagsched_result nagsched_entry_text(const struct nagsched_handle *named, const struct nagsched_entry *entry, char *text, size_t room,
+                                         size_t *length);
 
 /* Objects by number, from 0: hosts first, in the order of their names' bytes, then services, in the order of their hosts' names and then of
  * their descriptions. A full name is the name of a host, or HOST;DESCRIPTION of a service: at most 511 bytes of UTF-8. named is a setup, a
@@ -259,8 +260,8 @@ enum nagsched_result nagsched_host_of(const struct nagsched_handle *named, uint3
  * number out of its limits. Both allocate. (Proofs don't exclude one case, which no machine can reach: a 63-bit count of the desk's owners is
  * full. Then setup_or_book would be the desk's only pass.) */
 enum nagsched_result nagsched_open(struct nagsched_handle *setup_or_book, uint64_t start, size_t room, struct nagsched_pass *passes, size_t count);
-enum nagsched_result nagsched_open_with(struct nagsched_handle *setup_or_book, uint64_t start, size_t room, uint64_t calls, struct nagsched_pass *passes,
-                            size_t count);
+enum nagsched_result nagsched_open_with(struct nagsched_handle *setup_or_book, uint64_t start, size_t room, uint64_t calls,
+                                        struct nagsched_pass *passes, size_t count);
 
 /* The six calls, one try each; nagsched_take and so on below try until the turn has come.
  *
@@ -286,9 +287,11 @@ enum nagsched_result nagsched_open_with(struct nagsched_handle *setup_or_book, u
  * counted (nagsched_refused). WRONG: the handle has no pass, a code is above 3, or a flag is neither 0 nor 1. A number without an object
  * gets the reply UNKNOWN_OBJECT. A try never waits. It allocates only if the history has reached its room. */
 enum nagsched_result nagsched_try_take(struct nagsched_pass *pass, uint64_t now, struct nagsched_reply *reply);
-enum nagsched_result nagsched_try_report(struct nagsched_pass *pass, uint32_t object, uint64_t run, enum nagsched_code code, struct nagsched_reply *reply);
+enum nagsched_result nagsched_try_report(struct nagsched_pass *pass, uint32_t object, uint64_t run, enum nagsched_code code,
+                                         struct nagsched_reply *reply);
 enum nagsched_result nagsched_try_abandon(struct nagsched_pass *pass, uint32_t object, uint64_t run, uint64_t now, struct nagsched_reply *reply);
-enum nagsched_result nagsched_try_reschedule(struct nagsched_pass *pass, uint32_t object, uint64_t time, uint32_t forced, struct nagsched_reply *reply);
+enum nagsched_result nagsched_try_reschedule(struct nagsched_pass *pass, uint32_t object, uint64_t time, uint32_t forced,
+                                             struct nagsched_reply *reply);
 enum nagsched_result nagsched_try_enable(struct nagsched_pass *pass, uint32_t object, uint32_t on, struct nagsched_reply *reply);
 enum nagsched_result nagsched_try_status(struct nagsched_pass *pass, uint32_t object, struct nagsched_reply *reply);
 
@@ -350,8 +353,8 @@ enum nagsched_result nagsched_save(const struct nagsched_book *book, char *text,
  * SAVED_UNLAWFUL) and the object, and nagsched_refusal_text has its line. NO_MEMORY: nothing is known of the text. WRONG: the handle has no
  * setup, the book's handle isn't empty, or start is later than 2^60. With every status except OK the setup stays in its handle.
  * Allocates; takes longer with more bytes. Any thread, while no other call is made with the two handles. */
-enum nagsched_result nagsched_resume(struct nagsched_setup *setup, const char *text, size_t bytes, uint64_t start, size_t room, struct nagsched_book *book,
-                         struct nagsched_refusal *refusal);
+enum nagsched_result nagsched_resume(struct nagsched_setup *setup, const char *text, size_t bytes, uint64_t start, size_t room,
+                                     struct nagsched_book *book, struct nagsched_refusal *refusal);
 
 /* The running check of a book's object: the number of its run, and the moment at which it was taken, in milliseconds. Call it for each
  * object, from 0 to nagsched_count's objects, to get all running checks without reading an entry. On an open desk the thread that took a
@@ -376,20 +379,22 @@ static inline enum nagsched_result nagsched_take(struct nagsched_pass *pass, uin
     return status;
 }
 
-static inline enum nagsched_result nagsched_report(struct nagsched_pass *pass, uint32_t object, uint64_t run, enum nagsched_code code, struct nagsched_reply *reply) {
+static inline enum nagsched_result nagsched_report(struct nagsched_pass *pass, uint32_t object, uint64_t run, enum nagsched_code code,
+                                                   struct nagsched_reply *reply) {
     enum nagsched_result status;
     while ((status = nagsched_try_report(pass, object, run, code, reply)) == NAGSCHED_WAIT) sched_yield();
     return status;
 }
 
-static inline enum nagsched_result nagsched_abandon(struct nagsched_pass *pass, uint32_t object, uint64_t run, uint64_t now, struct nagsched_reply *reply) {
+static inline enum nagsched_result nagsched_abandon(struct nagsched_pass *pass, uint32_t object, uint64_t run, uint64_t now,
+                                                    struct nagsched_reply *reply) {
     enum nagsched_result status;
     while ((status = nagsched_try_abandon(pass, object, run, now, reply)) == NAGSCHED_WAIT) sched_yield();
     return status;
 }
 
 static inline enum nagsched_result nagsched_reschedule(struct nagsched_pass *pass, uint32_t object, uint64_t time, uint32_t forced,
-                                           struct nagsched_reply *reply) {
+                                                       struct nagsched_reply *reply) {
     enum nagsched_result status;
     while ((status = nagsched_try_reschedule(pass, object, time, forced, reply)) == NAGSCHED_WAIT) sched_yield();
     return status;

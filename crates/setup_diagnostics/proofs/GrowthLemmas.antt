@@ -6,7 +6,7 @@ use Rattle.setup_model.specs.declared.member.Kind.{Kind}
 use Rattle.setup_model.specs.declared.member.Kind.TheVariants as kind
 use Rattle.setup_model.specs.declared.member.Member.{Member}
 use Rattle.setup_model.specs.Member.{Row, as_row}
-use Rattle.setup_diagnostics.specs.Schema.{inner_members, ContainsText, NamesAll, NamesEach, NamesInner}
+use Rattle.setup_diagnostics.specs.Schema.{inner_members, ContainsText, EndsWith, NamesAll, NamesEach, NamesInner}
 use Rattle.setup_diagnostics.specs.Shapes.{BeginsWith}
 
 pub begins_itself : (a : List ℕ) → BeginsWith a a
@@ -26,6 +26,14 @@ has_then p a b h g = record {
   before = h.before;
   after = h.after ++ g.rest;
   is = g.is ∙ (ap (λ t. t ++ g.rest) h.is ∙ (append_assoc h.before (p ++ h.after) g.rest ∙ ap (λ t. h.before ++ t) (append_assoc p h.after g.rest)));
+}
+
+-- digits after the name of a member
+pub has_number : (name digits mid new : List ℕ) → EndsWith name mid → new ≡ mid ++ digits → ContainsText (name ++ digits) new
+has_number name digits mid new e f = record {
+  before = e.before;
+  after = [];
+  is = f ∙ (ap (λ t. t ++ digits) e.is ∙ (append_assoc e.before name digits ∙ ap (λ t. e.before ++ t) (sym (append-nil (name ++ digits)))));
 }
 
 pub each_then : (ms : List Row) (a b : List ℕ) → NamesEach ms a → BeginsWith a b → NamesEach ms b
