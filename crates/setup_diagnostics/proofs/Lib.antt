@@ -1,7 +1,6 @@
 pub mod FeedLemmas
 pub mod HeadLemmas
 pub mod PieceLemmas
-pub mod ShapeLemmas
 pub mod ExcerptLemmas
 pub mod KeyLemmas
 pub mod LineLemmas

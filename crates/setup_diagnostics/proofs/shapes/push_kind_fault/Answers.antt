@@ -1,6 +1,18 @@
+use Rattle.std.proofs.Common.{◌≡◌, List, ℕ, Option, ◌++◌, refl}
+use Rattle.std.specs.Prelude.{codes}
 use Rattle.std.proofs.lemmas.Result.{on_ok_weaker}
-use Rattle.setup_diagnostics.proofs.ShapeLemmas.{kind_fault}
+use Rattle.serde_json.specs.Data.{Data}
+use Rattle.setup_diagnostics.specs.Shapes.{Appends, IsKindFault, IsShown}
+use Rattle.setup_diagnostics.proofs.PieceLemmas.{four_pieces}
 use Rattle.setup_diagnostics.proofs.shapes.push_kind_fault.Goals as goal
+
+kind_fault : (words kind : List ℕ) (d : Option Data) (old a b c new : List ℕ) → a ≡ old ++ words → Appends (IsShown d) a b
+    → c ≡ b ++ codes "; it has to be " → new ≡ c ++ kind → Appends (IsKindFault words d kind) old new
+kind_fault words kind d old a b c new e s f g = record {
+  part = words ++ (s.part ++ (codes "; it has to be " ++ kind));
+  is = (s.part, s.is, refl);
+  grown = four_pieces old a b c new words s.part (codes "; it has to be ") kind e s.grown f g;
+}
 
 pub returns : goal.returns
 returns c =
