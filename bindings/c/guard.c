@@ -4,7 +4,8 @@
  * one type are the same, and calls the proved function otherwise. tools/build_c.sh gives the proved nagsched_open the name
  * nagsched_proved_open, and so on, and links the proved functions with these.
  *
- * The proved functions that open a desk also take its mark, which keeps the passes of two desks apart.
+ * The proved functions that open a desk also take its mark, which keeps the passes of two desks apart. The one that closes a desk leaves
+ * the book in the handle of the pass, from which this file moves it to a handle for a book.
  */
 #include "nagsched.h"
 
