@@ -1,5 +1,5 @@
 #!/usr/bin/env bash
-# Makes Debian packages from the built files: nagsched, libnagsched2, libnagsched-dev, python3-nagsched, nagsched-monitor. The number
+# Makes Debian packages from the built files: nagsched, libnagsched3, libnagsched-dev, python3-nagsched, nagsched-monitor. The number
 # is the version of the library's interface.
 #   tools/package.sh [DIRECTORY]     out/packages if no folder is named
 # It builds and proves nothing: tools/install.sh installs the built files, and prints which command to run if one is missing. Without the C library
