@@ -17,7 +17,7 @@ use Rattle.ticket_steps.specs.Seats.{posted_seat, seat_after_turn, gathered_seat
 use Rattle.ticket_steps.specs.Seats.{Holds, IsSeatAt}
 use Rattle.ticket_steps.specs.Sums.{total, occurrences, once_below, numbers_from}
 use Rattle.ticket_steps.proofs.Lists.{at_set, at_snoc, at_same, set_else, at_within}
-use Rattle.ticket_steps.proofs.SeatLemmas.{tickets, posts, tickets_idle, tickets_waiting, tickets_holding, holding_holds, posted_holds, holder_there}
+use Rattle.ticket_steps.proofs.SeatLemmas.{tickets, queued, ticket_count, posts, tickets_idle, tickets_waiting, tickets_holding, holding_holds, posted_holds, holder_there}
 use Rattle.ticket_steps.proofs.SeatLemmas.{same_ticket, sole}
 use Rattle.ticket_steps.proofs.SumLemmas.{total-set, total-append, occurrences-same, occurrences-append, occurrences-take-drop, take-numbers_from, drop-numbers_from}
 use Rattle.ticket_steps.proofs.SumLemmas.{length-numbers_from}
@@ -60,6 +60,7 @@ module _ {S C R : Type 0} (numbers draws : ℕ) where
             each_snoc draws 0 [] (fresh_seat draws 0 (numbers_from 0 numbers) 0) (fresh_is draws 0 0 numbers 0 (numbers_from 0 numbers) h refl)
             (λ j s e. absurd (some-ne-none s (sym e)));
         tickets = λ t. omega arith;
+        queue = refl;
         numbered = λ n. omega (arith, numbers_from_below n 0 numbers, below_no n 0 (omega arith), ap (once_below n) (zero-add numbers));
         count = omega (arith, len);
         counted = refl;
@@ -94,6 +95,7 @@ module _ {S C R : Type 0} (numbers draws : ℕ) where
             (each_set draws b.served b.served b.seats i x (fresh_is draws b.served p.own k p.calls (take k p.numbers) (omega arith) taken)
             (λ j s _ e. l.each j s e));
         tickets = λ t. omega (arith, l.tickets t, sums (tickets t), tickets_idle t p st.2);
+        queue = omega (arith, l.queue, sums queued, ap ticket_count st.2);
         numbered = λ n. omega (arith, l.numbered n, sums (λ (s : CoreSeat). occurrences n s.numbers), occurrences-take-drop n k p.numbers);
         count = omega (arith, l.count, sums (λ (s : CoreSeat). length s.numbers), xs, ys);
         counted = omega (arith, l.counted, sums posts, ap poster_count_of st.2);
@@ -106,12 +108,13 @@ module _ {S C R : Type 0} (numbers draws : ℕ) where
   -- one seat goes on to another phase, with its numbers and its calls; what the book takes in, it has posted
   lawful_phase : (b : CoreState S C R) (next i : ℕ) (p w : CoreSeat) (book : BookState S C R) → IsLawful numbers draws b → get_elem? b.seats i ≡ some p
       → IsSeat draws b.served w → ((t : ℕ) → tickets t w + once_below t b.next ≡ tickets t p + once_below t next)
-      → w.numbers ≡ p.numbers → w.calls ≡ p.calls → next + w.left ≤ b.next + p.left → spare_seats w ≤ spare_seats p
+      → next + queued p ≡ b.next + queued w → w.numbers ≡ p.numbers → w.calls ≡ p.calls → next + w.left ≤ b.next + p.left → spare_seats w ≤ spare_seats p
       → calls_handled book + posts p ≡ calls_handled b.book + posts w → IsLawful numbers draws (core_state next b.served (set b.seats i w) book)
-  lawful_phase b next i p w book l at seat moved numbers_are calls_are left less taken =
+  lawful_phase b next i p w book l at seat moved queue_moved numbers_are calls_are left less taken =
       let sums : (g : CoreSeat → ℕ) → total g (set b.seats i w) + g p ≡ total g b.seats + g w = λ g. total-set g b.seats i p w at in record {
         each = each_set draws b.served b.served b.seats i w seat (λ j s _ e. l.each j s e);
         tickets = λ t. omega (arith, l.tickets t, sums (tickets t), moved t);
+        queue = omega (arith, l.queue, sums queued, queue_moved);
         numbered = λ n. omega (arith, l.numbered n, sums (λ (s : CoreSeat). occurrences n s.numbers), ap (occurrences n) numbers_are);
         count = omega (arith, l.count, sums (λ (s : CoreSeat). length s.numbers), ap length numbers_are);
         counted = omega (arith, l.counted, sums posts, taken);
@@ -129,7 +132,8 @@ module _ {S C R : Type 0} (numbers draws : ℕ) where
         whole = λ e. absurd (cc);
         gone_seat = λ e. absurd (cc);
       } in
-      lawful_phase b (b.next + 1) i p (waiting_seat b.next p) b.book l st.0 seat (λ t. omega (arith, tickets_idle t p st.2, below_more t b.next)) refl refl
+      lawful_phase b (b.next + 1) i p (waiting_seat b.next p) b.book l st.0 seat (λ t. omega (arith, tickets_idle t p st.2, below_more t b.next))
+      (omega (arith, ap ticket_count st.2)) refl refl
       (omega (arith, has_left)) (omega arith) (omega (arith, ap poster_count_of st.2))
 
   lawful_look : (b : CoreState S C R) (own i : ℕ) (p : CoreSeat) → IsLawful numbers draws b → IsSeatAt b.seats i own (Waiting b.served) p
@@ -141,7 +145,8 @@ module _ {S C R : Type 0} (numbers draws : ℕ) where
         whole = λ e. (l.each i p st.0).whole e;
         gone_seat = λ e. absurd (cc);
       } in
-      lawful_phase b b.next i p (holding_seat b.served p) b.book l st.0 seat (λ t. omega (arith, tickets_waiting t b.served p st.2)) refl refl
+      lawful_phase b b.next i p (holding_seat b.served p) b.book l st.0 seat (λ t. omega (arith, tickets_waiting t b.served p st.2))
+      (omega (arith, ap ticket_count st.2)) refl refl
       (omega arith) (omega arith) (omega (arith, ap poster_count_of st.2))
 
   lawful_post : (b : CoreState S C R) (own i t : ℕ) (p : CoreSeat) (book : BookState S C R) → IsLawful numbers draws b → IsSeatAt b.seats i own (Holding t) p
@@ -155,7 +160,8 @@ module _ {S C R : Type 0} (numbers draws : ℕ) where
         whole = λ e. (l.each i p st.0).whole e;
         gone_seat = λ e. absurd (cc);
       } in
-      lawful_phase b b.next i p (posted_seat t p) book l st.0 seat (λ k. omega (arith, tickets_holding k t p holder)) refl refl
+      lawful_phase b b.next i p (posted_seat t p) book l st.0 seat (λ k. omega (arith, tickets_holding k t p holder))
+      (omega (arith, ap ticket_count st.2)) refl refl
       (omega arith) (omega arith) (omega (arith, grown, ap poster_count_of st.2))
 
   lawful_leave : (b : CoreState S C R) (i t : ℕ) (p : CoreSeat) (book : BookState S C R) → IsLawful numbers draws b → get_elem? b.seats i ≡ some p
@@ -185,6 +191,7 @@ module _ {S C R : Type 0} (numbers draws : ℕ) where
           gone_seat = is.gone_seat;
         });
         tickets = λ t. omega (arith, l.tickets t, sums (tickets t), has t, below_more t b.served);
+        queue = omega (arith, l.queue, sums queued, ap (λ (ts : List ℕ). length ts) holder.1);
         numbered = λ n. omega (arith, l.numbered n, sums (λ (s : CoreSeat). occurrences n s.numbers));
         count = omega (arith, l.count, sums (λ (s : CoreSeat). length s.numbers));
         counted = omega (arith, l.counted, sums posts, grown);
@@ -216,6 +223,7 @@ module _ {S C R : Type 0} (numbers draws : ℕ) where
           gone_seat = λ e. absurd (cc);
         } (λ j s _ e. l.each j s e) j s e);
         tickets = λ t. omega (arith, l.tickets t, sums (tickets t), tickets_idle t p st.2, tickets_idle t q st'.2);
+        queue = omega (arith, l.queue, sums queued, ap ticket_count st.2, ap ticket_count st'.2);
         numbered = λ n. omega (arith, l.numbered n, sums (λ (s : CoreSeat). occurrences n s.numbers), occurrences-append n p.numbers q.numbers);
         count = omega (arith, l.count, sums (λ (s : CoreSeat). length s.numbers), length-append p.numbers q.numbers);
         counted = omega (arith, l.counted, sums posts, ap poster_count_of st.2, ap poster_count_of st'.2);

@@ -1,5 +1,5 @@
 -- Lists read by `get_elem?`, and lists of words that are copied one by one.
-use Rattle.std.proofs.Common.{◌≡◌, ℕ, zero, suc, ◌<◌, ◌≢◌, ◌⊎◌, List, [], ◌∷◌, ◌++◌, length, get_or, set, sym, refl, ap, ◌∙◌, inl, inr, ⊎_elim, arith}
+use Rattle.std.proofs.Common.{◌≡◌, ℕ, zero, suc, ◌<◌, ◌≤◌, ◌≢◌, ◌⊎◌, List, [], ◌∷◌, ◌++◌, length, get_or, set, sym, refl, ap, ◌∙◌, inl, inr, ⊎_elim, arith}
 use Rattle.std.proofs.Common.{◌+◌, take, add-one}
 use Rattle.std.proofs.Math.Seq.{take-suc, take-length}
 use Rattle.std.proofs.lemmas.List.{length-take-le}
@@ -56,6 +56,32 @@ module _ {A : Type 0} where
   at_snoc [] a b (suc j) e = absurd (some-ne-none b (sym e))
   at_snoc (x ∷ xs) a b zero e = inl e
   at_snoc (x ∷ xs) a b (suc j) e = at_snoc xs a b j e
+
+  pub at_front : (l m : List A) (a : A) (j : ℕ) → get_elem? l j ≡ some a → get_elem? (l ++ m) j ≡ some a
+  at_front [] m a j e = absurd (some-ne-none a (sym e))
+  at_front (x ∷ xs) m a zero e = e
+  at_front (x ∷ xs) m a (suc j) e = at_front xs m a j e
+
+  pub at_middle : (l m : List A) (a : A) → get_elem? (l ++ a ∷ m) (length l) ≡ some a
+  at_middle [] m a = refl
+  at_middle (x ∷ xs) m a = at_middle xs m a
+
+  -- of two cuts of a list, the later one has all that is before the earlier one, and the element there
+  pub later_cut : (l m l' m' : List A) (a a' : A) → l ++ a ∷ m ≡ l' ++ a' ∷ m' → length l < length l' → (rest : List A) × (l' ≡ l ++ a ∷ rest)
+  later_cut l m [] m' a a' e h = absurd (omega (arith, h))
+  later_cut [] m (y ∷ ys) m' a a' e h = let first : a ≡ y = cc in (ys, λ i. sym first i ∷ ys)
+  later_cut (x ∷ xs) m (y ∷ ys) m' a a' e h =
+      let first : x ≡ y = cc in
+      let rest : xs ++ a ∷ m ≡ ys ++ a' ∷ m' = cc in
+      let cut = later_cut xs m ys m' a a' rest (omega (arith, h)) in (cut.0, λ i. sym first i ∷ cut.1 i)
+
+  pub same_cut : (l m l' m' : List A) (a a' : A) → l ++ a ∷ m ≡ l' ++ a' ∷ m' → length l' ≤ length l → (rest : List A) × (l ≡ l' ++ rest)
+  same_cut l m [] m' a a' e h = (l, refl)
+  same_cut [] m (y ∷ ys) m' a a' e h = absurd (omega (arith, h))
+  same_cut (x ∷ xs) m (y ∷ ys) m' a a' e h =
+      let first : x ≡ y = cc in
+      let rest : xs ++ a ∷ m ≡ ys ++ a' ∷ m' = cc in
+      let cut = same_cut xs m ys m' a a' rest (omega (arith, h)) in (cut.0, λ i. first i ∷ cut.1 i)
 
   -- writes at two places, in the other order
   pub set_swap : (l : List A) (i j : ℕ) (a b : A) → i ≢ j → set (set l i a) j b ≡ set (set l j b) i a

@@ -1,6 +1,6 @@
 -- What is so after every schedule.
 use Rattle.std.proofs.Common.{◌≡◌, ℕ, ◌+◌, ◌<◌, ◌≤◌, List, [], ◌∷◌, ◌++◌, length, take, get_or, add-one, sym, refl, ap, ◌∙◌, subst, arith, append_assoc}
-use Rattle.std.proofs.Common.{Bool, true, false, cond, eqb, ne_eqb, ◌≢◌}
+use Rattle.std.proofs.Common.{Bool, true, cond, eqb, ne_eqb, ◌≢◌}
 use Rattle.std.proofs.Math.Seq.{take-suc}
 use Rattle.std.proofs.lemmas.List.{append-nil}
 use mathlib.Core.List.{IsPrefix}
@@ -15,7 +15,7 @@ use Rattle.ticket_steps.specs.declared.events.Seen.{Seen}
 use Rattle.ticket_steps.specs.CoreStates.{CoreState, opening_core}
 use Rattle.ticket_steps.specs.Faults.{Shows, LeadsBy}
 use Rattle.ticket_steps.specs.Happenings.{Happening, split, drew, waited, held, posted, post_refused, left_posted, recorded, refused, glanced, gathered}
-use Rattle.ticket_steps.specs.Happenings.{calls_made, turns_ended, recorded_by, Moves, Leads}
+use Rattle.ticket_steps.specs.Happenings.{calls_made, turns_ended, recorded_by, recordings, Moves, Leads}
 use Rattle.ticket_steps.specs.History.{entry, of}
 use Rattle.ticket_steps.specs.Lawful.{IsLawful}
 use Rattle.ticket_steps.specs.Seats.{IsSeatAt, is_present}
@@ -26,7 +26,54 @@ use Rattle.ticket_steps.proofs.EntryLemmas.{of-append}
 use Rattle.ticket_steps.proofs.SeatLemmas.{own_below}
 use Rattle.ticket_steps.proofs.SumLemmas.{below_yes, below_no}
 
+module _ {C R : Type 0} where
+  pub recordings-append : (hs later : List (Happening C R)) → recordings (hs ++ later) ≡ recordings hs ++ recordings later
+  recordings-append [] later = refl
+  recordings-append (split own count ∷ hs) later = recordings-append hs later
+  recordings-append (drew own ticket ∷ hs) later = recordings-append hs later
+  recordings-append (waited own ∷ hs) later = recordings-append hs later
+  recordings-append (held own ∷ hs) later = recordings-append hs later
+  recordings-append (posted own call reply ∷ hs) later = ap (λ (l : List (Entry C R)). entry own call reply ∷ l) (recordings-append hs later)
+  recordings-append (post_refused own ∷ hs) later = recordings-append hs later
+  recordings-append (left_posted own ∷ hs) later = recordings-append hs later
+  recordings-append (recorded own call reply ∷ hs) later = ap (λ (l : List (Entry C R)). entry own call reply ∷ l) (recordings-append hs later)
+  recordings-append (refused own ∷ hs) later = recordings-append hs later
+  recordings-append (glanced own place word ∷ hs) later = recordings-append hs later
+  recordings-append (gathered own other ∷ hs) later = recordings-append hs later
+
+  -- the recordings of a number are those that it made
+  pub of-recordings : (n : ℕ) (hs : List (Happening C R)) → of n (recordings hs) ≡ recorded_by n hs
+  of-recordings n [] = refl
+  of-recordings n (split own count ∷ hs) = of-recordings n hs
+  of-recordings n (drew own ticket ∷ hs) = of-recordings n hs
+  of-recordings n (waited own ∷ hs) = of-recordings n hs
+  of-recordings n (held own ∷ hs) = of-recordings n hs
+  of-recordings n (posted own call reply ∷ hs) = ap (λ (l : List (Entry C R)). cond (eqb own n) (entry own call reply ∷ l) l) (of-recordings n hs)
+  of-recordings n (post_refused own ∷ hs) = of-recordings n hs
+  of-recordings n (left_posted own ∷ hs) = of-recordings n hs
+  of-recordings n (recorded own call reply ∷ hs) = ap (λ (l : List (Entry C R)). cond (eqb own n) (entry own call reply ∷ l) l) (of-recordings n hs)
+  of-recordings n (refused own ∷ hs) = of-recordings n hs
+  of-recordings n (glanced own place word ∷ hs) = of-recordings n hs
+  of-recordings n (gathered own other ∷ hs) = of-recordings n hs
+
+  pub count-cons : (h : Happening C R) (hs : List (Happening C R)) → (calls_made (h ∷ hs) ≡ calls_made (h ∷ []) + calls_made hs)
+      × (turns_ended (h ∷ hs) ≡ turns_ended (h ∷ []) + turns_ended hs)
+  count-cons (split own count) hs = (omega arith, omega arith)
+  count-cons (drew own ticket) hs = (omega arith, omega arith)
+  count-cons (waited own) hs = (omega arith, omega arith)
+  count-cons (held own) hs = (omega arith, omega arith)
+  count-cons (posted own call reply) hs = (omega arith, omega arith)
+  count-cons (post_refused own) hs = (omega arith, omega arith)
+  count-cons (left_posted own) hs = (omega arith, omega arith)
+  count-cons (recorded own call reply) hs = (omega arith, omega arith)
+  count-cons (refused own) hs = (omega arith, omega arith)
+  count-cons (glanced own place word) hs = (omega arith, omega arith)
+  count-cons (gathered own other) hs = (omega arith, omega arith)
+
 module _ {K C R : Type 0} (k : Ghosts K C R) where
+  abbrev entries_in : CoreState k.State C R → List (Entry C R)
+  entries_in c = c.book.entries
+
   module _ (draws : ℕ) where
     -- one happening more
     pub leads_more : (b c d : CoreState k.State C R) (hs : List (Happening C R)) (h : Happening C R) → Leads k draws b hs c → Moves k draws c h d
@@ -89,49 +136,32 @@ module _ {K C R : Type 0} (k : Ghosts K C R) where
         leads_glanced opening own place word t.0 c hs after (book_stays (IsLawfulBook k.step opening)
         (λ own call book was. lawful_entry k.step opening own call book was) (λ book was. lawful_refusal k.step opening book was) b t.0 h t.1 l) t.2
 
-    -- one happening adds to the entries of a number what it has recorded
+    -- one happening adds to the entries what it has recorded
+    moves_recordings : (b c : CoreState k.State C R) (h : Happening C R) → Moves k draws b h c → c.book.entries ≡ b.book.entries ++ recordings (h ∷ [])
+    moves_recordings b c (split own count) t = ap entries_in t.6 ∙ sym (append-nil b.book.entries)
+    moves_recordings b c (drew own ticket) t = ap entries_in t.5 ∙ sym (append-nil b.book.entries)
+    moves_recordings b c (waited own) t = ap entries_in t.5 ∙ sym (append-nil b.book.entries)
+    moves_recordings b c (held own) t = ap entries_in t.3 ∙ sym (append-nil b.book.entries)
+    moves_recordings b c (posted own call reply) t = ap entries_in t.5 ∙ ap (λ (r : R). b.book.entries ++ entry own call r ∷ []) (sym t.4)
+    moves_recordings b c (post_refused own) t = ap entries_in t.4 ∙ sym (append-nil b.book.entries)
+    moves_recordings b c (left_posted own) t = ap entries_in t.4 ∙ sym (append-nil b.book.entries)
+    moves_recordings b c (recorded own call reply) t = ap entries_in t.5 ∙ ap (λ (r : R). b.book.entries ++ entry own call r ∷ []) (sym t.4)
+    moves_recordings b c (refused own) t = ap entries_in t.4 ∙ sym (append-nil b.book.entries)
+    moves_recordings b c (glanced own place word) t = ap entries_in t.5 ∙ sym (append-nil b.book.entries)
+    moves_recordings b c (gathered own other) t = ap entries_in t.7 ∙ sym (append-nil b.book.entries)
+
+    -- the entries are those that were there, and what was recorded since
+    pub leads_recordings : (b c : CoreState k.State C R) (hs : List (Happening C R)) → Leads k draws b hs c
+        → c.book.entries ≡ b.book.entries ++ recordings hs
+    leads_recordings b c [] t = ap entries_in t ∙ sym (append-nil b.book.entries)
+    leads_recordings b c (h ∷ hs) t = leads_recordings t.0 c hs t.2 ∙ (ap (λ (l : List (Entry C R)). l ++ recordings hs) (moves_recordings b t.0 h t.1)
+        ∙ (append_assoc b.book.entries (recordings (h ∷ [])) (recordings hs)
+        ∙ ap (λ (l : List (Entry C R)). b.book.entries ++ l) (sym (recordings-append (h ∷ []) hs))))
+
     moves_of : (n : ℕ) (b c : CoreState k.State C R) (h : Happening C R) → Moves k draws b h c
         → of n c.book.entries ≡ of n b.book.entries ++ recorded_by n (h ∷ [])
-    moves_of n b c (split own count) t = ap (λ (z : CoreState k.State C R). of n z.book.entries) t.6 ∙ sym (append-nil (of n b.book.entries))
-    moves_of n b c (drew own ticket) t = ap (λ (z : CoreState k.State C R). of n z.book.entries) t.5 ∙ sym (append-nil (of n b.book.entries))
-    moves_of n b c (waited own) t = ap (λ (z : CoreState k.State C R). of n z.book.entries) t.5 ∙ sym (append-nil (of n b.book.entries))
-    moves_of n b c (held own) t = ap (λ (z : CoreState k.State C R). of n z.book.entries) t.3 ∙ sym (append-nil (of n b.book.entries))
-    moves_of n b c (posted own call reply) t = ap (λ (z : CoreState k.State C R). of n z.book.entries) t.5
-        ∙ (of-append n b.book.entries (entry own call (k.step b.book.state call).1 ∷ [])
-        ∙ ap (λ (r : R). of n b.book.entries ++ recorded_by n (posted own call r ∷ [])) (sym t.4))
-    moves_of n b c (post_refused own) t = ap (λ (z : CoreState k.State C R). of n z.book.entries) t.4 ∙ sym (append-nil (of n b.book.entries))
-    moves_of n b c (left_posted own) t = ap (λ (z : CoreState k.State C R). of n z.book.entries) t.4 ∙ sym (append-nil (of n b.book.entries))
-    moves_of n b c (recorded own call reply) t = ap (λ (z : CoreState k.State C R). of n z.book.entries) t.5
-        ∙ (of-append n b.book.entries (entry own call (k.step b.book.state call).1 ∷ [])
-        ∙ ap (λ (r : R). of n b.book.entries ++ recorded_by n (recorded own call r ∷ [])) (sym t.4))
-    moves_of n b c (refused own) t = ap (λ (z : CoreState k.State C R). of n z.book.entries) t.4 ∙ sym (append-nil (of n b.book.entries))
-    moves_of n b c (glanced own place word) t = ap (λ (z : CoreState k.State C R). of n z.book.entries) t.5 ∙ sym (append-nil (of n b.book.entries))
-    moves_of n b c (gathered own other) t = ap (λ (z : CoreState k.State C R). of n z.book.entries) t.7 ∙ sym (append-nil (of n b.book.entries))
-
-    entry-cons : (n own : ℕ) (mine : Entry C R) (es : List (Entry C R)) → cond (eqb own n) (mine ∷ es) es ≡ cond (eqb own n) (mine ∷ []) [] ++ es
-    entry-cons n own mine es =
-        elim (eqb own n) as (λ b. cond b (mine ∷ es) es ≡ cond b (mine ∷ []) [] ++ es) [ true ↦ refl | false ↦ refl ]
-
-    recorded-cons : (n : ℕ) (h : Happening C R) (hs : List (Happening C R)) → recorded_by n (h ∷ hs) ≡ recorded_by n (h ∷ []) ++ recorded_by n hs
-    recorded-cons n (split own count) hs = refl
-    recorded-cons n (drew own ticket) hs = refl
-    recorded-cons n (waited own) hs = refl
-    recorded-cons n (held own) hs = refl
-    recorded-cons n (posted own call reply) hs = entry-cons n own (entry own call reply) (recorded_by n hs)
-    recorded-cons n (post_refused own) hs = refl
-    recorded-cons n (left_posted own) hs = refl
-    recorded-cons n (recorded own call reply) hs = entry-cons n own (entry own call reply) (recorded_by n hs)
-    recorded-cons n (refused own) hs = refl
-    recorded-cons n (glanced own place word) hs = refl
-    recorded-cons n (gathered own other) hs = refl
-
-    -- the entries of a number are those it had, and what it has recorded since
-    pub leads_of : (n : ℕ) (b c : CoreState k.State C R) (hs : List (Happening C R)) → Leads k draws b hs c
-        → of n c.book.entries ≡ of n b.book.entries ++ recorded_by n hs
-    leads_of n b c [] t = ap (λ (z : CoreState k.State C R). of n z.book.entries) t ∙ sym (append-nil (of n b.book.entries))
-    leads_of n b c (h ∷ hs) t = leads_of n t.0 c hs t.2 ∙ (ap (λ (l : List (Entry C R)). l ++ recorded_by n hs) (moves_of n b t.0 h t.1)
-        ∙ (append_assoc (of n b.book.entries) (recorded_by n (h ∷ [])) (recorded_by n hs) ∙ ap
-        (λ (l : List (Entry C R)). of n b.book.entries ++ l) (sym (recorded-cons n h hs))))
+    moves_of n b c h t = ap (of n) (moves_recordings b c h t) ∙ (of-append n b.book.entries (recordings (h ∷ []))
+        ∙ ap (λ (l : List (Entry C R)). of n b.book.entries ++ l) (of-recordings n (h ∷ [])))
 
     abbrev taken : CoreState k.State C R → ℕ
     taken c = calls_handled c.book
@@ -155,20 +185,6 @@ module _ {K C R : Type 0} (k : Ghosts K C R) where
     moves_count b c (refused own) t = (omega (arith, ap taken t.4, taken_refusal 0 draws k b.book), omega (arith, ap served t.4))
     moves_count b c (glanced own place word) t = (omega (arith, ap taken t.5), omega (arith, ap served t.5))
     moves_count b c (gathered own other) t = (omega (arith, ap taken t.7), omega (arith, ap served t.7))
-
-    count-cons : (h : Happening C R) (hs : List (Happening C R)) → (calls_made (h ∷ hs) ≡ calls_made (h ∷ []) + calls_made hs)
-        × (turns_ended (h ∷ hs) ≡ turns_ended (h ∷ []) + turns_ended hs)
-    count-cons (split own count) hs = (omega arith, omega arith)
-    count-cons (drew own ticket) hs = (omega arith, omega arith)
-    count-cons (waited own) hs = (omega arith, omega arith)
-    count-cons (held own) hs = (omega arith, omega arith)
-    count-cons (posted own call reply) hs = (omega arith, omega arith)
-    count-cons (post_refused own) hs = (omega arith, omega arith)
-    count-cons (left_posted own) hs = (omega arith, omega arith)
-    count-cons (recorded own call reply) hs = (omega arith, omega arith)
-    count-cons (refused own) hs = (omega arith, omega arith)
-    count-cons (glanced own place word) hs = (omega arith, omega arith)
-    count-cons (gathered own other) hs = (omega arith, omega arith)
 
     pub leads_count : (b c : CoreState k.State C R) (hs : List (Happening C R)) → Leads k draws b hs c → Counts b c hs
     leads_count b c [] t = (omega (arith, ap taken t), omega (arith, ap served t))
@@ -236,8 +252,11 @@ module _ {K C R : Type 0} (k : Ghosts K C R) where
   pub schedule_book : (s : Schedule k.State C R) → IsSchedule k s → IsLawfulBook k.step s.opening s.end.book
   schedule_book s is = leads_lawful_book s.draws s.opening (opening_core s.numbers s.draws s.opening) s.end s.happenings (lawful_empty k.step s.opening) is.leads
 
+  pub schedule_order : (s : Schedule k.State C R) → IsSchedule k s → s.end.book.entries ≡ recordings s.happenings
+  schedule_order s is = leads_recordings s.draws (opening_core s.numbers s.draws s.opening) s.end s.happenings is.leads
+
   pub schedule_of : (s : Schedule k.State C R) → IsSchedule k s → (n : ℕ) → of n s.end.book.entries ≡ recorded_by n s.happenings
-  schedule_of s is n = leads_of s.draws n (opening_core s.numbers s.draws s.opening) s.end s.happenings is.leads
+  schedule_of s is n = ap (of n) (schedule_order s is) ∙ of-recordings n s.happenings
 
   pub schedule_glanced : (s : Schedule k.State C R) → IsSchedule k s → (own place word : ℕ) (before after : List (Happening C R))
       → s.happenings ≡ before ++ glanced own place word ∷ after → ShowsAt k s.opening place word s.end.book.entries

@@ -14,10 +14,17 @@ use Rattle.ticket_steps.specs.Seats.{Holds, tickets_of, holder_count_of, poster_
 use Rattle.ticket_steps.specs.Sums.{total, occurrences, once_below, numbers_from}
 use Rattle.ticket_steps.proofs.SumLemmas.{occurrences-same, occurrences-other, times_le, below_le, below_no, below_yes, between, term_le, terms_le, sums_le}
 use Rattle.ticket_steps.proofs.SumLemmas.{sums_lt}
-use Rattle.ticket_steps.proofs.SumLemmas.{only_term, numbers_from_last}
+use Rattle.ticket_steps.proofs.SumLemmas.{only_term, some_term, numbers_from_last}
 
 abbrev pub tickets : ℕ → CoreSeat → ℕ
 tickets t s = occurrences t (tickets_of s.phase)
+
+-- the number of tickets of a seat: one or none
+abbrev pub ticket_count : Phase → ℕ
+ticket_count p = length (tickets_of p)
+
+abbrev pub queued : CoreSeat → ℕ
+queued s = ticket_count s.phase
 
 abbrev pub holds : CoreSeat → ℕ
 holds s = holder_count_of s.phase
@@ -92,6 +99,25 @@ posters_le seats = sums_le posts holds seats (λ k u e. posted_le_as u.phase)
 
 there_or_not : (p : Phase) → (is_present p ≡ true) ⊎ (is_present p ≡ false)
 there_or_not p = elim (is_present p) as (λ b. (b ≡ true) ⊎ (b ≡ false)) [ true ↦ inl refl | false ↦ inr refl ]
+
+only_ticket : (t x : ℕ) → 0 < occurrences t (x ∷ []) → x ∷ [] ≡ t ∷ []
+only_ticket t x h = dite (ℕ_discrete t x) (λ e. ap (λ (n : ℕ). n ∷ []) (sym e)) (λ ne. absurd (omega (arith, h, occurrences-other t x [] ne)))
+
+-- a seat with a ticket has no other
+pub ticket_is : (t : ℕ) (p : Phase) → 0 < occurrences t (tickets_of p) → tickets_of p ≡ t ∷ []
+ticket_is t Idle h = absurd (omega (arith, h))
+ticket_is t (Waiting x) h = only_ticket t x h
+ticket_is t (Holding x) h = only_ticket t x h
+ticket_is t (Posted x) h = only_ticket t x h
+ticket_is t Gone h = absurd (omega (arith, h))
+
+-- it waits or holds
+pub waits_or_holds : (t : ℕ) (p : Phase) → tickets_of p ≡ t ∷ [] → (p ≡ Waiting t) ⊎ Holds t p
+waits_or_holds t Idle h = let n : 0 ≡ 1 = ap (λ (ts : List ℕ). length ts) h in absurd (omega (arith, n))
+waits_or_holds t (Waiting x) h = inl (ap Waiting (same_ticket x t h))
+waits_or_holds t (Holding x) h = inr (refl, h)
+waits_or_holds t (Posted x) h = inr (refl, h)
+waits_or_holds t Gone h = let n : 0 ≡ 1 = ap (λ (ts : List ℕ). length ts) h in absurd (omega (arith, n))
 
 -- a seat with a ticket answers for some number
 pub busy : (draws served : ℕ) (s : CoreSeat) → IsSeat draws served s → length (tickets_of s.phase) ≤ length s.numbers
@@ -240,3 +266,34 @@ module _ {S C R : Type 0} (numbers draws : ℕ) (c : CoreState S C R) (l : IsLaw
 
   pub one_calls : (i : ℕ) (p : CoreSeat) → get_elem? c.seats i ≡ some p → p.calls ≤ c.served
   one_calls i p at = omega (arith, l.calls, term_le (λ (s : CoreSeat). s.calls) c.seats i p at)
+
+  -- where one seat has no ticket, fewer tickets are drawn and not left than there are numbers
+  pub queue_lt : (i : ℕ) (p : CoreSeat) → get_elem? c.seats i ≡ some p → p.phase ≡ Idle → c.next < c.served + numbers
+  queue_lt i p at idle =
+      let fewer : total queued c.seats < total (λ (s : CoreSeat). length s.numbers) c.seats = sums_lt queued (λ (s : CoreSeat). length s.numbers) c.seats i p at
+      (omega (arith, ap ticket_count idle, (l.each i p at).own (ap is_present idle), times_le p.own p.numbers))
+      (λ k u e. busy draws c.served u (l.each k u e)) in
+      omega (arith, l.queue, l.count, fewer)
+
+  -- a seat that has a ticket has one of those that are drawn and not left
+  pub has_ticket : (i t : ℕ) (p : CoreSeat) → get_elem? c.seats i ≡ some p → tickets_of p.phase ≡ t ∷ [] → 0 < occurrences t (tickets_of p.phase)
+  has_ticket i t p at has = omega (arith, ap (occurrences t) has, occurrences-same t [])
+
+  -- while a seat waits, some seat has the ticket that is served
+  pub served_seat : (i t : ℕ) (p : CoreSeat) → get_elem? c.seats i ≡ some p → p.phase ≡ Waiting t
+      → (k : ℕ) × (u : CoreSeat) × (get_elem? c.seats k ≡ some u) × (tickets_of u.phase ≡ c.served ∷ [])
+  served_seat i t p at waits =
+      let drawn = in_line i t p at (omega (arith, tickets_waiting t t p waits, occurrences-same t [])) in
+      let found = some_term (tickets c.served) c.seats (omega (arith, one_served, below_yes c.served c.next drawn)) in (
+        found.0,
+        found.1,
+        found.2,
+        ticket_is c.served found.1.phase found.3,
+      )
+
+  -- before a seat has posted its call, no seat has
+  pub none_posted : (i t : ℕ) (p : CoreSeat) → get_elem? c.seats i ≡ some p → p.phase ≡ Holding t → posters c.seats ≡ 0
+  none_posted i t p at holding =
+      let fewer : posters c.seats < holders c.seats = sums_lt posts holds c.seats i p at (omega (arith, ap poster_count_of holding, ap holder_count_of holding))
+      (λ k u e. posted_le_as u.phase) in
+      omega (arith, fewer, one_holder)

@@ -43,6 +43,12 @@ module _ {A : Type 0} where
     only_term (x ∷ xs) zero v e h = omega (arith, ap g (some-injective x v e), no_term xs (λ k u d. h (suc k) u (λ i. omega arith) d))
     only_term (x ∷ xs) (suc j) v e h = omega (arith, h zero x (λ i. omega arith) refl, only_term xs j v e (λ k u n d. h (suc k) u (λ i. n (omega arith)) d))
 
+  -- a sum above 0 has a place that counts
+  pub some_term : (g : A → ℕ) (l : List A) → 0 < total g l → (k : ℕ) × (u : A) × (get_elem? l k ≡ some u) × (0 < g u)
+  some_term g [] h = absurd (omega (arith, h))
+  some_term g (x ∷ xs) h = dite (dec_le (suc 0) (g x)) (λ here. (zero, x, refl, omega (arith, here)))
+      (λ none. let found = some_term g xs (omega (arith, h, none)) in (suc found.0, found.1, found.2, found.3))
+
   -- a sum that is no greater at any place, and less at one
   pub sums_le : (f g : A → ℕ) (l : List A) → ((k : ℕ) (u : A) → get_elem? l k ≡ some u → f u ≤ g u) → total f l ≤ total g l
   sums_le f g [] h = omega arith

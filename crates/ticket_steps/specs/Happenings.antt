@@ -74,6 +74,13 @@ module _ {C R : Type 0} where
   recorded_by number (posted own call reply ∷ hs) = cond (own == number) (entry own call reply ∷ recorded_by number hs) (recorded_by number hs)
   recorded_by number (_ ∷ hs) = recorded_by number hs
 
+  -- all calls that were recorded, by a post or by a leave, each with its reply, in the order of the posts and leaves
+  abbrev pub recordings : List (Happening C R) → List (Entry C R)
+  recordings [] = []
+  recordings (recorded own call reply ∷ hs) = entry own call reply ∷ recordings hs
+  recordings (posted own call reply ∷ hs) = entry own call reply ∷ recordings hs
+  recordings (_ ∷ hs) = recordings hs
+
   -- the number of calls that were made, by a post or by a leave, each recorded or refused
   abbrev pub calls_made : List (Happening C R) → ℕ
   calls_made [] = 0
@@ -90,6 +97,14 @@ module _ {C R : Type 0} where
   turns_ended (recorded own call reply ∷ hs) = 1 + turns_ended hs
   turns_ended (refused own ∷ hs) = 1 + turns_ended hs
   turns_ended (_ ∷ hs) = turns_ended hs
+
+  -- the number of turns that a seat has ended
+  abbrev pub turns_ended_by : ℕ → List (Happening C R) → ℕ
+  turns_ended_by number [] = 0
+  turns_ended_by number (left_posted own ∷ hs) = cond (own == number) 1 0 + turns_ended_by number hs
+  turns_ended_by number (recorded own call reply ∷ hs) = cond (own == number) 1 0 + turns_ended_by number hs
+  turns_ended_by number (refused own ∷ hs) = cond (own == number) 1 0 + turns_ended_by number hs
+  turns_ended_by number (_ ∷ hs) = turns_ended_by number hs
 
 module _ {S C R : Type 0} where
   -- other seats; everything else stays as it was

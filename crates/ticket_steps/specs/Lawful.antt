@@ -4,7 +4,7 @@ use mathlib.Core.Option.{some}
 use lib.ListN.{get_elem?}
 use Rattle.ticket_steps.specs.declared.seats.CoreSeat.{CoreSeat}
 use Rattle.ticket_steps.specs.CoreStates.{CoreState, IsCounted}
-use Rattle.ticket_steps.specs.Seats.{Holds, is_present, tickets_at, answering}
+use Rattle.ticket_steps.specs.Seats.{Holds, is_present, tickets_of, tickets_at, answering}
 use Rattle.ticket_steps.specs.Sums.{total, occurrences, once_below, numbers_from}
 
 -- the facts of each seat when this number is served
@@ -27,6 +27,8 @@ pub record IsLawful {S C R : Type 0} (numbers draws : ℕ) (c : CoreState S C R)
   pub each : (i : ℕ) (s : CoreSeat) → get_elem? c.seats i ≡ some s → IsSeat draws c.served s
   -- each ticket below the next one was left, or is held by one seat; no seat has any other ticket
   pub tickets : (t : ℕ) → tickets_at t c.seats + once_below t c.served ≡ once_below t c.next
+  -- as many seats have a ticket as tickets were drawn and not left
+  pub queue : c.next ≡ c.served + total (λ (s : CoreSeat). length (tickets_of s.phase)) c.seats
   -- exactly one seat answers for each number
   pub numbered : (n : ℕ) → answering n c.seats ≡ once_below n numbers
   pub count : total (λ (s : CoreSeat). length s.numbers) c.seats ≡ numbers

@@ -10,4 +10,6 @@ pub mod Lawful
 pub mod Grants
 pub mod CounterBooks
 pub mod Schedules
+pub mod Turns
+pub mod Endless
 pub mod Cores

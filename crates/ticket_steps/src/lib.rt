@@ -13,7 +13,7 @@
 //! - `events`: the events of a seat, the results that it sees, and the faults.
 //! - `grants`: the number served, stored in four words.
 //! - `core_steps`: the core as a program that makes one step or a list of steps.
-//! - `schedules`: the law of every schedule.
+//! - `schedules`: the laws of every schedule, and of endless ones.
 
 mod books;
 mod core_steps;
@@ -27,5 +27,5 @@ pub use books::{Entry, Kept, NoMemory};
 pub use core_steps::Core;
 pub use events::{Event, Fault, Seen};
 pub use grants::{Grants, watched_word};
-pub use schedules::every_schedule;
+pub use schedules::{every_endless_schedule, every_schedule};
 pub use seats::{CoreSeat, DRAWS, Phase};

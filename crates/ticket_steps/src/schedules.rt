@@ -1,4 +1,4 @@
-//! The law that holds after every schedule.
+//! The law that holds after every schedule, and the law of endless schedules.
 
 ghost use Rattle.std.specs.Prelude.{◌≡◌, ℕ, ◌+◌, ◌<◌, ◌≤◌, ◌*◌, List, [], ◌∷◌, ◌++◌, length, true};
 ghost use mathlib.Core.Option.{some};
@@ -6,11 +6,14 @@ ghost use lib.ListN.{get_elem?};
 ghost use Rattle.ticket_steps.specs.declared.seats.CoreSeat.{CoreSeat};
 ghost use Rattle.ticket_steps.specs.Books.{IsLawfulBook, calls_handled};
 ghost use Rattle.ticket_steps.specs.CoreStates.{IsCounted};
-ghost use Rattle.ticket_steps.specs.Happenings.{Happening, calls_made, glanced, recorded_by, turns_ended};
-ghost use Rattle.ticket_steps.specs.History.{of};
+ghost use Rattle.ticket_steps.specs.Endless.{Endless, IsEndless, IsFair, HoldsLater};
+ghost use Rattle.ticket_steps.specs.Happenings.{Happening, calls_made, drew, glanced, recorded_by, recordings, turns_ended};
+ghost use Rattle.ticket_steps.specs.History.{entry, of};
 ghost use Rattle.ticket_steps.specs.Schedules.{Schedule, IsSchedule, IsLine, ShowsAt};
-ghost use Rattle.ticket_steps.specs.Seats.{Holds, answering, holders, is_present};
+ghost use Rattle.ticket_steps.specs.Seats.{Holds, answering, holders, is_present, tickets_of};
 ghost use Rattle.ticket_steps.specs.Sums.{total, once_below};
+ghost use Rattle.ticket_steps.specs.Turns.{Turn, IsTurnOf, drawn_at, entry_at, GoesOn};
+ghost use Rattle.ticket_steps.specs.declared.seats.Phase.TheVariants.{Waiting};
 
 use crate::books::Kept;
 
@@ -28,6 +31,15 @@ use crate::books::Kept;
 ///   all seats together have ended (`calls`). If there is a seat for all numbers, it is the number of calls
 ///   that this seat has ended (`alone`);
 /// - the book is lawful: its entries are legal, and its state is their replay (`lawful`);
+/// - the entries are the calls that were recorded, by a post or by a leave, in the order of the posts and
+///   leaves (`order`). The entry of a turn is at the place where its recording is among them (`turn`), and each
+///   entry is that of a turn (`turns`);
+/// - first come, first served: if a seat drew before another, its entry stands before the other's
+///   (`first_come`);
+/// - while a seat waits or holds, fewer turns end than there are numbers (`bypass`). So no caller waits for
+///   more than one call of each other caller;
+/// - nothing is stuck: while a seat waits, some seat holds, or the seat whose ticket is served waits and holds
+///   at its next look (`unstuck`);
 /// - the entries of each number are the calls that it recorded, by a post or by a leave, in their order
 ///   (`entries`). Numbers that weren't given to a seat have no entries (`strangers`);
 /// - each word that a seat has read is the word after some first part of the entries, from the opening on
@@ -57,6 +69,25 @@ pub fn every_schedule<K: Kept>()
         → IsLawfulBook K.step s.opening s.end.book }
     ensures entries { (s : Schedule K.State K.Call K.Reply) → IsSchedule K.Kept s
         → (number : ℕ) → of number s.end.book.entries ≡ recorded_by number s.happenings }
+    ensures order { (s : Schedule K.State K.Call K.Reply) → IsSchedule K.Kept s
+        → s.end.book.entries ≡ recordings s.happenings }
+    ensures turn { (s : Schedule K.State K.Call K.Reply) → IsSchedule K.Kept s
+        → (turn : Turn K.Call K.Reply) → IsTurnOf s.happenings turn
+        → get_elem? s.end.book.entries (entry_at turn) ≡ some (entry turn.own turn.call turn.reply) }
+    ensures turns { (s : Schedule K.State K.Call K.Reply) → IsSchedule K.Kept s
+        → (place : ℕ) → place < length s.end.book.entries
+        → (turn : Turn K.Call K.Reply) × IsTurnOf s.happenings turn × (entry_at turn ≡ place) }
+    ensures first_come { (s : Schedule K.State K.Call K.Reply) → IsSchedule K.Kept s
+        → (one other : Turn K.Call K.Reply) → IsTurnOf s.happenings one → IsTurnOf s.happenings other
+        → drawn_at one < drawn_at other → entry_at one < entry_at other }
+    ensures bypass { (s : Schedule K.State K.Call K.Reply) → IsSchedule K.Kept s
+        → (own ticket : ℕ) (before after : List (Happening K.Call K.Reply))
+        → s.happenings ≡ before ++ drew own ticket ∷ after
+        → (i : ℕ) (p : CoreSeat) → get_elem? s.end.seats i ≡ some p
+        → tickets_of p.phase ≡ ticket ∷ [] → turns_ended after < s.numbers }
+    ensures unstuck { (s : Schedule K.State K.Call K.Reply) → IsSchedule K.Kept s
+        → (i ticket : ℕ) (p : CoreSeat) → get_elem? s.end.seats i ≡ some p
+        → p.phase ≡ Waiting ticket → GoesOn K.Kept s.draws s.end }
     ensures glanced { (s : Schedule K.State K.Call K.Reply) → IsSchedule K.Kept s
         → (own place word : ℕ) (before after : List (Happening K.Call K.Reply))
         → s.happenings ≡ before ++ glanced own place word ∷ after
@@ -71,4 +102,12 @@ pub fn every_schedule<K: Kept>()
         → (number : ℕ) → answering number s.end.seats ≡ once_below number s.numbers }
     ensures supply { (s : Schedule K.State K.Call K.Reply) → IsSchedule K.Kept s
         → s.end.next + total (λ (p : CoreSeat). p.left) s.end.seats ≤ s.numbers * s.draws }
+{}
+
+/// A law without code. No caller starves: in every endless schedule in which each waiting seat looks at some
+/// later time, and each holder leaves at some later time, each seat that drew a ticket holds with that ticket
+/// at some later time (`fair`).
+pub fn every_endless_schedule<K: Kept>()
+    ensures fair { (s : Endless K.State K.Call K.Reply) → IsEndless K.Kept s → IsFair s
+        → (n own ticket : ℕ) → s.happening n ≡ drew own ticket → HoldsLater s n own ticket }
 {}
