@@ -12,7 +12,7 @@ use Rattle.ticket_steps.specs.declared.books.Entry.{Entry}
 use Rattle.ticket_steps.specs.declared.books.Kept.{Ghosts}
 use Rattle.ticket_steps.specs.declared.seats.CoreSeat.{CoreSeat}
 use Rattle.ticket_steps.specs.declared.seats.Phase.TheVariants.{Idle, Waiting, Holding, Posted}
-use Rattle.ticket_steps.specs.Books.{empty_book}
+use Rattle.ticket_steps.specs.Books.{book_state, empty_book}
 use Rattle.ticket_steps.specs.CoreStates.{CoreState, opening_core}
 use Rattle.ticket_steps.specs.Happenings.{Happening, drew, waited, held, left_posted, split, gathered}
 use Rattle.ticket_steps.specs.History.{of, replay, IsLegal}
@@ -24,6 +24,7 @@ use Rattle.ticket_steps.proofs.SeatLemmas.{tickets_holding, waits_in_line, holdi
 use Rattle.ticket_steps.proofs.SumLemmas.{times_le, occurrences-same, below_yes, term_le}
 use Rattle.ticket_lock.specs.declared.views.Start.{Start}
 use Rattle.ticket_lock.specs.declared.views.View.{View}
+use Rattle.ticket_lock.specs.Endings.{EndsSchedule}
 use Rattle.ticket_lock.specs.Histories.{IsTrueView}
 use Rattle.ticket_lock.specs.Layout.{first_words, grant_word, board_word, next_word}
 use Rattle.ticket_lock.specs.GhostSteps.{DrawFact, LookFact, PostFact, LeaveFact, SecondLoadFact, GlanceFact}
@@ -33,7 +34,7 @@ use Rattle.ticket_lock.specs.Steps.{IsBookAfterCall, IsBookAfterPost, word_in}
 use Rattle.ticket_lock.specs.Views.{spent_view, first_view, Follows, view_after_split, split_view, view_after_draw, gathered_view, view_after_second_load}
 use Rattle.ticket_lock.specs.Views.{view_after_look}
 use Rattle.ticket_lock.specs.Views.{view_after_post, view_after_glance, view_after_leave}
-use Rattle.ticket_lock.proofs.BoardLemmas.{AreLaws}
+use Rattle.ticket_lock.proofs.BoardLemmas.{AreLaws, state_is}
 use Rattle.ticket_lock.proofs.Events.{lawful, lawful_book, next_small, seat_at, draw_event, wait_event, look_event, post_event, leave_event, leave_posted_event}
 use Rattle.ticket_lock.proofs.Events.{split_event, gather_event, second_load_same, glance_same, strangers_none}
 use Rattle.ticket_lock.proofs.WordLemmas.{watched_found, board_found, words_opened}
@@ -98,11 +99,23 @@ module _ {K C R : Type 0} (k : Ghosts K C R) (start : Start K) where
       let e = draw_event k start r.0 r.1 s id me r.2 at idle has_left in
       (view_after_draw (get_or s.words next_word 0) me.0, keeps, tt, (r.0 ++ drew me.0.seat.own r.1.next ∷ [], e.0, e.2), refl)
 
+  -- the book of the core is that at the end of a schedule
+  pub ends : AreLaws k → (hs : List (Happening C R)) (c : Core) (s : Table) (book : K) → IsTableOf k start hs c s → IsBook k start c.book book
+      → EndsSchedule k start book
+  ends laws hs c s book r is = record {
+    schedule = record { opening = k.opening start.book; numbers = start.numbers; draws = start.draws; happenings = hs; end = c };
+    is = record { nonempty_numbers = r.nonempty_numbers; bounded_numbers = r.bounded_numbers; leads = r.words.leads };
+    opening = refl;
+    numbers = refl;
+    draws = refl;
+    book_is = λ i. book_state (sym (state_is k laws start c.book book (lawful_book k start hs c s r) is) i) (sym is.entries i) (sym is.refused i);
+  }
+
   -- what the play of a look says of a look that holds
-  pub look_held_told : (hs : List (Happening C R)) (c : Core) (s : Table) (id : ℕ) (me : Me (Option K) V) (book : K) (st : Step (Option K))
+  pub look_held_told : AreLaws k → (hs : List (Happening C R)) (c : Core) (s : Table) (id : ℕ) (me : Me (Option K) V) (book : K) (st : Step (Option K))
       → IsTableOf k start hs c s → get_elem? s.views id ≡ some me.0 → me.0.seat.phase ≡ Waiting c.served → me.1 ≡ []
       → IsBook k start c.book book → LookFact k st me (get_or s.words (grant_word c.served) 0) (view_after_look k c.served me.0 book, (0, Some book) ∷ me.1)
-  look_held_told hs c s id me book st r at waits bare is_book =
+  look_held_told laws hs c s id me book st r at waits bare is_book =
       let v : V = me.0 in
       let is : get_or s.words (grant_word c.served) 0 ≡ c.served =
       (watched_found c.next c.served (k.board c.book.state) s.words r.words.words c.served (omega arith)).1 refl in
@@ -115,18 +128,21 @@ module _ {K C R : Type 0} (k : Ghosts K C R) (start : Start K) where
         λ _. (
           book,
           (let same : c.served ≡ t' = ticket t' phase in λ i. (view_after_look k (same i) v book, (0, Some book) ∷ bare i)),
-          λ o known. let mine : o ≡ start = old.start_is o known in record {
-            opening = is_book.opening ∙ ap (λ (z : Start K). k.opening z.book) (sym mine);
-            follows = subst (Follows v.seat.numbers v.seen) (sym is_book.entries) old.seen;
-            counted = omega (
-              arith,
-              taken_at_home start.numbers start.draws c l (no_holder start.numbers start.draws c l id v.seat at' waits),
-              ap length is_book.entries,
-              is_book.refused,
-              ticket t' phase,
-            );
-            bounded = omega (arith, ticket t' phase, in_line start.numbers start.draws c l id c.served v.seat at' has, next_small k start hs c s r);
-          },
+          λ o known. let mine : o ≡ start = old.start_is o known in (
+            record {
+              opening = is_book.opening ∙ ap (λ (z : Start K). k.opening z.book) (sym mine);
+              follows = subst (Follows v.seat.numbers v.seen) (sym is_book.entries) old.seen;
+              counted = omega (
+                arith,
+                taken_at_home start.numbers start.draws c l (no_holder start.numbers start.draws c l id v.seat at' waits),
+                ap length is_book.entries,
+                is_book.refused,
+                ticket t' phase,
+              );
+              bounded = omega (arith, ticket t' phase, in_line start.numbers start.draws c l id c.served v.seat at' has, next_small k start hs c s r);
+            },
+            subst (λ (z : Start K). EndsSchedule k z book) (sym mine) (ends laws hs c s book r is_book),
+          ),
         ),
         λ miss. absurd (miss (is ∙ ticket t' phase)),
       )
@@ -160,15 +176,15 @@ module _ {K C R : Type 0} (k : Ghosts K C R) (start : Start K) where
       × Rule (stepped s (grant_word t) (get_or s.words (grant_word t) 0) id me.1 w a)
       × LookFact k st me (get_or s.words (grant_word t) 0) (w, carried_after me.1 a)
 
-  held_leads : (hs : List (Happening C R)) (c : Core) (s : Table) (id : ℕ) (me : Me (Option K) V) (st : Step (Option K)) → IsTableOf k start hs c s
+  held_leads : AreLaws k → (hs : List (Happening C R)) (c : Core) (s : Table) (id : ℕ) (me : Me (Option K) V) (st : Step (Option K)) → IsTableOf k start hs c s
       → get_elem? s.views id ≡ some me.0 → me.0.seat.phase ≡ Waiting c.served → me.1 ≡ [] → Leads s id me st c.served
-  held_leads hs c s id me st r at waits bare =
+  held_leads laws hs c s id me st r at waits bare =
       let e = look_event k start hs c s id me r at waits in (
         view_after_look k c.served me.0 e.0,
         takes 0 (Some e.0),
         e.1,
         (hs ++ held me.0.seat.own ∷ [], e.3.0, e.3.2),
-        look_held_told hs c s id me e.0 st r at waits bare e.2,
+        look_held_told laws hs c s id me e.0 st r at waits bare e.2,
       )
 
   waiting_leads : (hs : List (Happening C R)) (c : Core) (s : Table) (id t : ℕ) (me : Me (Option K) V) (st : Step (Option K)) → IsTableOf k start hs c s
@@ -182,18 +198,18 @@ module _ {K C R : Type 0} (k : Ghosts K C R) (start : Start K) where
         look_waits_told hs c s id t me st r at waits later,
       )
 
-  looks_at : (n id t : ℕ) (me : Me (Option K) V) → me.0.seat.phase ≡ Waiting t → me.1 ≡ []
+  looks_at : AreLaws k → (n id t : ℕ) (me : Me (Option K) V) → me.0.seat.phase ≡ Waiting t → me.1 ≡ []
       → Allows Rule n id me (grant_word t) (λ x. x) (LookFact k (step n (grant_word t) 0 0 none) me)
-  looks_at n id t me waits bare s r wide at small =
+  looks_at laws n id t me waits bare s r wide at small =
       let st : Step (Option K) = step n (grant_word t) 0 0 none in
       dite (ℕ_discrete t r.1.served)
-      (λ first. subst (Leads s id me st) (sym first) (held_leads r.0 r.1 s id me st r.2 at (waits ∙ ap Waiting first) bare))
+      (λ first. subst (Leads s id me st) (sym first) (held_leads laws r.0 r.1 s id me st r.2 at (waits ∙ ap Waiting first) bare))
       (λ later. waiting_leads r.0 r.1 s id t me st r.2 at waits later)
 
-  pub looks : (n id t word : ℕ) (me : Me (Option K) V) → word ≡ grant_word t → me.0.seat.phase ≡ Waiting t → me.1 ≡ []
+  pub looks : AreLaws k → (n id t word : ℕ) (me : Me (Option K) V) → word ≡ grant_word t → me.0.seat.phase ≡ Waiting t → me.1 ≡ []
       → Allows Rule n id me word (λ x. x) (LookFact k (step n word 0 0 none) me)
-  looks n id t word me is waits bare =
-      subst (λ (w : ℕ). Allows Rule n id me w (λ x. x) (LookFact k (step n w 0 0 none) me)) (sym is) (looks_at n id t me waits bare)
+  looks laws n id t word me is waits bare =
+      subst (λ (w : ℕ). Allows Rule n id me w (λ x. x) (LookFact k (step n w 0 0 none) me)) (sym is) (looks_at laws n id t me waits bare)
 
   -- what the play of a leave says
   pub leave_told : (hs : List (Happening C R)) (c : Core) (s : Table) (id t : ℕ) (me : Me (Option K) V) (book : K) (st : Step (Option K))
@@ -377,15 +393,16 @@ module _ {K C R : Type 0} (k : Ghosts K C R) (start : Start K) where
 
   -- the last book that a lock has: what it says to the seat with this view, which stands for all numbers
   pub record IsLastBook (v : V) (book : K) : Type 0 where
+    pub ends : EndsSchedule k start book
     pub opening : k.opening book ≡ k.opening start.book
     pub history : k.history book ≡ v.seen
     pub calls : length (k.history book) + k.refusals book ≡ v.seat.calls
     pub numbers : (p : ℕ) → start.numbers ≤ p → of p (k.history book) ≡ []
 
   -- where one idle seat stands for all numbers, the book is home and has what the seat has seen
-  pub closes : (s : Table) (id : ℕ) (v : V) → Rule s → get_elem? s.views id ≡ some v → v.seat.phase ≡ Idle → start.numbers ≤ length v.seat.numbers
+  pub closes : AreLaws k → (s : Table) (id : ℕ) (v : V) → Rule s → get_elem? s.views id ≡ some v → v.seat.phase ≡ Idle → start.numbers ≤ length v.seat.numbers
       → (book : K) × (get_elem? s.homes 0 ≡ some (some (Some book))) × IsLastBook v book
-  closes s id v r at idle all =
+  closes laws s id v r at idle all =
       let hs = r.0 in
       let c = r.1 in
       let l = lawful k start hs c s r.2 in
@@ -416,6 +433,7 @@ module _ {K C R : Type 0} (k : Ghosts K C R) (start : Start K) where
         there.0,
         there.1,
         record {
+          ends = ends laws hs c s there.0 r.2 there.2;
           opening = there.2.opening;
           history = there.2.entries ∙ seen;
           calls = omega (arith, ap length there.2.entries, there.2.refused, taken_at_home start.numbers start.draws c l free, l.calls, calls);

@@ -19,6 +19,7 @@ use Rattle.ticket_lock.specs.Steps.{TableMoment, IsTableMoment, LeavesOnly, next
 use Rattle.ticket_lock.specs.Steps.{after_leaving}
 use Rattle.ticket_lock.specs.Steps.{after_second_load, after_posting, word_in}
 use Rattle.ticket_lock.specs.Views.{view_after_draw, view_after_look, view_after_post, view_after_leave, view_after_second_load, longer}
+use Rattle.ticket_lock.proofs.BoardLemmas.{AreLaws}
 use Rattle.ticket_lock.proofs.ActLemmas.{HasSlot, has_after, left_home, took_home, one_slot_is}
 use Rattle.ticket_lock.proofs.Events.{lawful, seat_at, look_event}
 use Rattle.ticket_lock.proofs.Obligations.{look_held_told, look_waits_told, post_told, leave_told, second_load_told}
@@ -70,15 +71,15 @@ module _ {K C R : Type 0} (k : Ghosts K C R) where
       let same : e.0 ≡ book = ap (λ (o : Option K). unwrap_or o book) (some-injective _ _ (some-injective _ _ (sym e.1 ∙ at))) in
       subst (IsBook k m.start m.core.book) same e.2
 
-  pub look_held_only : (m : Moment) (book : K) (st : Step (Option K)) → IsTableMoment k m → m.me.0.seat.phase ≡ Waiting m.core.served
+  pub look_held_only : AreLaws k → (m : Moment) (book : K) (st : Step (Option K)) → IsTableMoment k m → m.me.0.seat.phase ≡ Waiting m.core.served
       → m.me.1 ≡ [] → get_elem? m.table.homes 0 ≡ some (some (Some book)) → IsBook k m.start m.core.book book
       → LeavesOnly k m (grant_word m.core.served) found_number (LookFact k st m.me) (after_holding k m.table m.id m.core.served m.me book)
-  look_held_only m book st is waits bare at is_book = record {
+  look_held_only laws m book st is waits bare at is_book = record {
     may = record {
       view = view_after_look k m.core.served m.me.0 book;
       act = takes 0 (Some book);
       valid = at;
-      agreement = look_held_told k m.start m.happenings m.core m.table m.id m.me book st is.ruled is.there waits bare is_book;
+      agreement = look_held_told k m.start laws m.happenings m.core m.table m.id m.me book st is.ruled is.there waits bare is_book;
       is = refl;
     };
     only = λ t may.

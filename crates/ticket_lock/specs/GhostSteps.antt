@@ -7,6 +7,7 @@ use Rattle.ticket_steps.specs.declared.seats.Phase.TheVariants.{Waiting, Holding
 use Rattle.ticket_lock.specs.declared.views.Start.{Start}
 use Rattle.ticket_lock.specs.declared.views.View.{View}
 use Rattle.ticket_lock.specs.Callers.{IsHandedOut, IsGlanceResult}
+use Rattle.ticket_lock.specs.Endings.{EndsSchedule}
 use Rattle.ticket_lock.specs.Views.{Follows, longer, view_after_draw, view_after_second_load, view_after_look, view_after_post, view_after_glance}
 use Rattle.ticket_lock.specs.Views.{view_after_leave}
 
@@ -32,7 +33,8 @@ module _ {K C R : Type 0} (k : Ghosts K C R) where
   abbrev pub LookFact : Step (Option K) → Me (Option K) (View K C R) → ℕ → Me (Option K) (View K C R) → Type 0
   LookFact step before found after = (ticket : ℕ) → before.0.seat.phase ≡ Waiting ticket
       → (found ≡ ticket → (book : K) × (after ≡ (view_after_look k ticket before.0 book, (0, Some book) ∷ [])) ×
-      ((start : Start K) → before.0.start ≡ Some start → IsHandedOut k start before.0.seat.numbers before.0.seen ticket book))
+      ((start : Start K) → before.0.start ≡ Some start
+      → IsHandedOut k start before.0.seat.numbers before.0.seen ticket book × EndsSchedule k start book))
       × (found ≢ ticket → (after ≡ before) × ((start : Start K) → before.0.start ≡ Some start → length before.0.seat.numbers < start.numbers))
 
   -- a leave: the book is back in its slot

@@ -9,6 +9,7 @@ pub mod Steps
 pub mod Legal
 pub mod Counts
 pub mod Callers
+pub mod Endings
 pub mod GhostSteps
 pub mod Tokens
 pub mod Posting

@@ -6,6 +6,7 @@ ghost use Rattle.ticket_steps.specs.History.{of, IsLegal};
 ghost use Rattle.ticket_lock.specs.Boards.{board_after, board_length};
 ghost use Rattle.ticket_lock.specs.Callers.{first_caller, caller_after_split, split_part, caller_after_draw, caller_with_history, caller_after_call};
 ghost use Rattle.ticket_lock.specs.Callers.{gathered_caller, IsHandedOut};
+ghost use Rattle.ticket_lock.specs.Endings.{EndsSchedule};
 ghost use Rattle.ticket_lock.specs.Layout.{word_count};
 ghost use Rattle.ticket_lock.specs.Steps.{IsBookAfterCall, IsBookAfterPost};
 ghost use Rattle.ticket_lock.specs.Views.{Follows};
@@ -229,7 +230,9 @@ impl<K: Kept> TicketLock<K> {
 
     /// Looks whether the turn's ticket is served. If it is, the caller gets the book. The book's entries
     /// begin with all that the caller has seen, and the rest has no entries of the caller's numbers. The
-    /// number of entries and refusals is the ticket. A turn whose seat has all numbers is always served.
+    /// number of entries and refusals is the ticket. A turn whose seat has all numbers is always served. The
+    /// book is that at the end of a schedule of the core (`schedule`), so all that
+    /// [`every_schedule`](ticket_steps::every_schedule) says of such an end holds of it.
     pub fn look(&self, turn: Turn<K>) -> Look<K>
         requires { IsTurnOf self.now turn }
         ensures lock { MatchLook result (λ hold book. IsHoldOf self.now hold)
@@ -243,6 +246,8 @@ impl<K: Kept> TicketLock<K> {
             (λ hold book. IsHandedOut K.Kept (start_of self.now) (turn_of turn).numbers
             (turn_of turn).seen (ticket_of turn) book)
             (λ back. length (turn_of turn).numbers < (start_of self.now).numbers) }
+        ensures schedule { MatchLook result
+            (λ hold book. EndsSchedule K.Kept (start_of self.now) book) (λ back. ⊤) }
         ensures lawful { MatchLook result
             (λ hold book. IsLawfulBook K.step (K.opening book)
             (book_state (K.state book) (K.history book) (K.refusals book)))
@@ -406,12 +411,14 @@ impl<K: Kept> TicketLock<K> {
     }
 
     /// Takes the book out for good, if the seat has all numbers. The seat has seen the whole history, and its
-    /// calls are all that were made. The call returns the lock and the seat as they were exactly if numbers
+    /// calls are all that were made. The book is that at the end of a schedule of the core (`schedule`), so
+    /// all that [`every_schedule`](ticket_steps::every_schedule) says of such an end holds of it. The call returns the lock and the seat as they were exactly if numbers
     /// are missing.
     pub fn close(self, seat: Seat<K>) -> Result<K, (TicketLock<K>, Seat<K>)>
         requires { IsSeatOf self seat }
         ensures missing { IsErr result ↔ (length (seat_of seat).numbers < (start_of self).numbers) }
         ensures err { IfErr result (λ back. (back.0 ≡ self) × (back.1 ≡ seat)) }
+        ensures schedule { IfOk result (λ book. EndsSchedule K.Kept (start_of self) book) }
         ensures opening { IfOk result (λ book. K.opening book ≡ K.opening (start_of self).book) }
         ensures history { IfOk result (λ book. K.history book ≡ (seat_of seat).seen) }
         ensures calls { IfOk result (λ book.

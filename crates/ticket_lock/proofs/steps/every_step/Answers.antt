@@ -39,10 +39,10 @@ returns g c = record {
   look_held_fact = λ m book step is waits bare at. record {
     stands = stepped_here m.table.views m.id m.me.0 _ is.there;
     agreement =
-        look_held_told g.K.Kept m.start m.happenings m.core m.table m.id m.me book step is.ruled is.there waits bare
+        look_held_told g.K.Kept m.start (laws_of g) m.happenings m.core m.table m.id m.me book step is.ruled is.there waits bare
         (book_home g.K.Kept m book is waits at);
   };
-  look_held_only = λ m book step is waits bare at. look_held_only g.K.Kept m book step is waits bare at (book_home g.K.Kept m book is waits at);
+  look_held_only = λ m book step is waits bare at. look_held_only g.K.Kept (laws_of g) m book step is waits bare at (book_home g.K.Kept m book is waits at);
   look_waits_only = λ m ticket step is waits later bare. look_waits_only g.K.Kept m ticket step is waits later bare;
   leave_only = λ m ticket book step is holds hand. leave_only g.K.Kept m ticket book step is holds hand;
   second_load_only = λ m step is bare gathered_caller. second_load_only g.K.Kept m step is bare gathered_caller;

@@ -2,10 +2,14 @@ use Rattle.std.proofs.Common.{◌≡◌, Option, Some, arith, sym, ap, ◌∙◌
 use Rattle.std.specs.Option.{unwrap_or}
 use Rattle.std.proofs.lemmas.Bool.{false≢true}
 use mathlib.Core.Option.{some-injective}
+use Rattle.ticket_lock.proofs.BoardLemmas.{AreLaws}
 use Rattle.ticket_lock.proofs.Obligations.{IsLastBook, closes}
 use Rattle.ticket_lock.proofs.lock.TicketLock.close.Given.{Over}
 use Rattle.ticket_lock.proofs.lock.TicketLock.close.Goals.{After-take-slot}
 use Rattle.ticket_lock.proofs.lock.TicketLock.close.Goals as goal
+
+laws_of : (g : Over) → AreLaws g.K.Kept
+laws_of g = record { legal = g.met.K.Kept.legal; replayed = g.met.K.Kept.replayed; unposted = g.met.K.Kept.unposted; posted = g.met.K.Kept.posted }
 
 -- the slot had the last book
 last_book : (g : Over) (c : After-take-slot g) → let key = c.args.self.table.shared.key in (book : g.row.K.Denot) × (c.take-slot.result ≡ Some book)
@@ -13,7 +17,7 @@ last_book : (g : Over) (c : After-take-slot g) → let key = c.args.self.table.s
 last_book g c =
     let f = c.close_with-closed.ensures.values.2 in
     let s = c.args.seat in
-    let t = closes g.K.Kept _ f.0 _ _ f.1.0 f.1.1 s.idle (omega (arith, s.agreement.count, c.args.self.agreement.0, c.if-seat-self.false)) in
+    let t = closes g.K.Kept _ (laws_of g) f.0 _ _ f.1.0 f.1.1 s.idle (omega (arith, s.agreement.count, c.args.self.agreement.0, c.if-seat-self.false)) in
     (t.0, some-injective _ _ (sym c.take-slot.ensures.value ∙ f.4 0 (Some t.0) t.1), t.2)
 
 -- so a book that came out of it is the last one
@@ -30,6 +34,18 @@ unreachable-requires g c = let t = last_book g (goal.at.unreachable-requires g c
 
 pub returns-clause-opening : goal.returns-clause-opening
 returns-clause-opening g c = (is_last g (goal.at.returns-clause-opening g c).After-take-slot c.in-Some.book c.in-Some.is).opening
+
+pub returns-clause-schedule : goal.returns-clause-schedule
+returns-clause-schedule g c =
+    let ends = (is_last g (goal.at.returns-clause-schedule g c).After-take-slot c.in-Some.book c.in-Some.is).ends in
+    record {
+      schedule = ends.schedule;
+      is = ends.is;
+      opening = ends.opening;
+      numbers = ends.numbers ∙ c.args.self.agreement.0;
+      draws = ends.draws ∙ c.args.self.agreement.1;
+      book_is = ends.book_is;
+    }
 
 pub returns-clause-numbers : goal.returns-clause-numbers
 returns-clause-numbers g c =
