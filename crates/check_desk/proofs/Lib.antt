@@ -4,3 +4,4 @@ pub mod ScheduleLemmas
 pub mod BoardLemmas
 mod RecordLemmas
 mod ReportLemmas
+mod AnsweredLemmas

@@ -3,3 +3,4 @@ pub mod Desks
 pub mod Belonging
 pub mod Schedules
 pub mod Reports
+pub mod Answered

@@ -1,6 +1,7 @@
 -- The schedules of a desk's lock: the steps of any callers, in any order, and the states to which they lead.
 use Rattle.std.specs.Prelude.{◌≡◌, ℕ, List}
 use Rattle.ticket_steps.specs.declared.books.Entry.{Entry}
+use Rattle.ticket_steps.specs.Books.{book_state}
 use Rattle.ticket_steps.specs.History.{replay, IsLegal}
 use Rattle.ticket_steps.specs.Schedules.{Schedule, IsSchedule}
 use Rattle.check_objects.specs.Configuration.{Configuration}
@@ -9,6 +10,8 @@ use Rattle.check_sched.specs.declared.call.Reply.{Reply}
 use Rattle.check_sched.specs.State.{opening}
 use Rattle.check_sched.specs.Step.{step}
 use Rattle.check_book.specs.BookState.{BookState, book_at, book_opening}
+use Rattle.check_book.specs.Books.{entries_of, refused_of, state_of}
+use Rattle.check_book.specs.declared.book.Book.{Book}
 use Rattle.check_book.specs.contracts.book.BookKept.TheImpl.{ghosts as kept_book}
 
 -- A schedule of the core, with 1 to 1,024 numbers, over a book that opens empty on this setup, at this start and with this room: any steps of any
@@ -28,3 +31,10 @@ pub record IsScheduleAfter (setup : Configuration) (start : ℕ) (earlier : List
 pub record IsScheduleFrom (opened : BookState) (s : Schedule BookState Call Reply) : Type 0 where
   pub schedule : IsSchedule kept_book s
   pub opens : s.opening ≡ opened
+
+-- The book that comes out of a desk is that at the end of such a schedule, with a number for each pass.
+pub record EndsScheduleFrom (opened : BookState) (passes : ℕ) (book : Book) : Type 0 where
+  pub schedule : Schedule BookState Call Reply
+  pub is : IsScheduleFrom opened schedule
+  pub passes_are : schedule.numbers ≡ passes
+  pub book_is : schedule.end.book ≡ book_state (state_of book) (entries_of book) (refused_of book)

@@ -74,6 +74,7 @@ pub enum Answer {
 impl Desk {
     ghost use Rattle.check_desk.specs.Desks.{AreNewPasses, HasNoMemory, HasRecorded, IsHistoryOf, IsHolderAt, IsPassOf, IsWaitingAt, MatchAnswer};
     ghost use Rattle.check_desk.specs.Desks.{AreNewPassesWith, MatchPoll, calls_of, objects_of, desk_opening, passes_of, caller_after_reply, standing_after};
+    ghost use Rattle.check_desk.specs.Schedules.{EndsScheduleFrom};
     ghost use Rattle.check_desk.specs.Passes.{held_book, drawn_ticket, hold_caller, pass_of, turn_caller};
 
     /// A desk over the book, and its passes in the order of their numbers, from 0. Each pass has 2^32 - 1
@@ -344,11 +345,14 @@ impl Desk {
     /// they were exactly if passes are missing.
     ///
     /// The book's history is the one that the pass has seen. It has each caller's calls once, in the caller's
-    /// order, and nothing else.
+    /// order, and nothing else. The book is that at the end of a schedule from the desk's opening (`schedule`),
+    /// so all that [`headline_from_any_state`](crate::laws::headline_from_any_state) says of such an end holds
+    /// of it.
     pub fn close(self, pass: Pass) -> Result<Book, (Desk, Pass)>
         requires { IsPassOf self pass }
         ensures missing { IsErr result ↔ (length (pass_of pass).numbers < passes_of self) }
         ensures err { IfErr result (λ back. (back.0 ≡ self) × (back.1 ≡ pass)) }
+        ensures schedule { IfOk result (λ book. EndsScheduleFrom (desk_opening self) (passes_of self) book) }
         ensures opening { IfOk result (λ book. opening_of book ≡ desk_opening self) }
         ensures history { IfOk result (λ book. entries_of book ≡ (pass_of pass).seen) }
         ensures calls { IfOk result (λ book.

@@ -2,16 +2,20 @@
 
 ghost use Rattle.std.specs.Prelude.{ℕ, ◌≡◌, ◌+◌, ◌<◌, ◌≤◌, ◌^◌, List, [], ◌∷◌, ◌++◌, length, Bool, true, false, Option, Some};
 ghost use Rattle.std.specs.List.{All, list_any};
+ghost use mathlib.Core.List.{IsPrefix};
 ghost use mathlib.Core.Option.{some};
 ghost use lib.ListN.{get_elem?};
 ghost use Rattle.ticket_steps.specs.declared.books.Entry.{Entry};
 ghost use Rattle.ticket_steps.specs.declared.seats.CoreSeat.{CoreSeat};
 ghost use Rattle.ticket_steps.specs.Books.{calls_handled};
-ghost use Rattle.ticket_steps.specs.Happenings.{calls_made, recorded_by};
+ghost use Rattle.ticket_steps.specs.Endless.{Endless, IsEndless, IsFair, HoldsLater};
+ghost use Rattle.ticket_steps.specs.Happenings.{Happening, calls_made, drew, recorded_by, recordings, turns_ended};
 ghost use Rattle.ticket_steps.specs.History.{entry, of, replay, IsLegal};
 ghost use Rattle.ticket_steps.specs.Schedules.{Schedule};
-ghost use Rattle.ticket_steps.specs.Seats.{poster_count_of};
+ghost use Rattle.ticket_steps.specs.Seats.{poster_count_of, tickets_of};
 ghost use Rattle.ticket_steps.specs.Sums.{occurrences};
+ghost use Rattle.ticket_steps.specs.Turns.{Turn as TurnPart, IsTurnOf, drawn_at, entry_at, GoesOn};
+ghost use Rattle.ticket_steps.specs.declared.seats.Phase.TheVariants.{Waiting};
 ghost use Rattle.ticket_lock.specs.Callers.{Caller, caller_after_draw};
 ghost use Rattle.ticket_lock.specs.Views.{Follows};
 ghost use Rattle.check_objects.specs.Configuration.{Configuration};
@@ -25,6 +29,8 @@ ghost use Rattle.check_sched.specs.Runs.{begins, ends, runs_begun, runs_under};
 ghost use Rattle.check_sched.specs.State.{opening, run_number_of};
 ghost use Rattle.check_sched.specs.Step.{step};
 ghost use Rattle.check_book.specs.BookState.{BookState};
+ghost use Rattle.check_book.specs.contracts.book.BookKept.TheImpl.{ghosts as kept_book};
+ghost use Rattle.check_desk.specs.Answered.{IsMadeAfter};
 ghost use Rattle.check_desk.specs.declared.desk.Desk.{Desk};
 ghost use Rattle.check_desk.specs.declared.passes.{Hold.Hold, Pass.Pass, Turn.Turn};
 ghost use Rattle.check_desk.specs.Desks.{AreNewPasses, HasRecorded, IsHistoryOf, IsPassOf, objects_of, caller_after_reply, standing_after};
@@ -45,6 +51,13 @@ ghost use Rattle.check_desk.specs.Schedules.{IsScheduleAfter, IsScheduleFrom, Is
 ///   2, 3 and so on (`runs`).
 /// - Each number's entries are the calls that it recorded, each once and in its order (`entries`). A
 ///   number that was never given out has no entries (`strangers`).
+/// - All entries are the calls that were recorded, in the order of the posts and leaves (`order`). Each entry
+///   is the call of one turn, and stands between the turn's draw and its end (`turn`, `turns`).
+/// - First come, first served: if a pass drew before another, its entry stands before the other's
+///   (`first_come`). While a pass waits, fewer turns of others end than there are passes (`bypass`).
+/// - Nothing is stuck: while a pass waits, some pass holds, or the pass whose ticket is served waits and holds
+///   at its next look (`unstuck`). In every endless schedule in which each pass that waits looks again and
+///   each holder leaves, each pass that drew holds later (`fair`).
 /// - Entries and refusals together are the calls that were made (`made`). If one seat has all
 ///   numbers, they are the calls that it counts, plus one while it has posted a call and not left
 ///   (`all`).
@@ -78,6 +91,33 @@ pub fn headline()
     ensures entries { (setup : Configuration) (start room : ℕ) (s : Schedule BookState Call Reply)
         → IsScheduleOver setup start room s
         → (number : ℕ) → of number s.end.book.entries ≡ recorded_by number s.happenings }
+    ensures order { (setup : Configuration) (start room : ℕ) (s : Schedule BookState Call Reply)
+        → IsScheduleOver setup start room s
+        → s.end.book.entries ≡ recordings s.happenings }
+    ensures turn { (setup : Configuration) (start room : ℕ) (s : Schedule BookState Call Reply)
+        → IsScheduleOver setup start room s
+        → (turn : TurnPart Call Reply) → IsTurnOf s.happenings turn
+        → get_elem? s.end.book.entries (entry_at turn) ≡ some (entry turn.own turn.call turn.reply) }
+    ensures turns { (setup : Configuration) (start room : ℕ) (s : Schedule BookState Call Reply)
+        → IsScheduleOver setup start room s
+        → (place : ℕ) → place < length s.end.book.entries
+        → (turn : TurnPart Call Reply) × IsTurnOf s.happenings turn × (entry_at turn ≡ place) }
+    ensures first_come { (setup : Configuration) (start room : ℕ) (s : Schedule BookState Call Reply)
+        → IsScheduleOver setup start room s
+        → (one other : TurnPart Call Reply) → IsTurnOf s.happenings one → IsTurnOf s.happenings other
+        → drawn_at one < drawn_at other → entry_at one < entry_at other }
+    ensures bypass { (setup : Configuration) (start room : ℕ) (s : Schedule BookState Call Reply)
+        → IsScheduleOver setup start room s
+        → (own ticket : ℕ) (before after : List (Happening Call Reply))
+        → s.happenings ≡ before ++ drew own ticket ∷ after
+        → (i : ℕ) (p : CoreSeat) → get_elem? s.end.seats i ≡ some p
+        → tickets_of p.phase ≡ ticket ∷ [] → turns_ended after < s.numbers }
+    ensures unstuck { (setup : Configuration) (start room : ℕ) (s : Schedule BookState Call Reply)
+        → IsScheduleOver setup start room s
+        → (i ticket : ℕ) (p : CoreSeat) → get_elem? s.end.seats i ≡ some p
+        → p.phase ≡ Waiting ticket → GoesOn kept_book s.draws s.end }
+    ensures fair { (s : Endless BookState Call Reply) → IsEndless kept_book s → IsFair s
+        → (n own ticket : ℕ) → s.happening n ≡ drew own ticket → HoldsLater s n own ticket }
     ensures strangers { (setup : Configuration) (start room : ℕ) (s : Schedule BookState Call Reply)
         → IsScheduleOver setup start room s
         → (number : ℕ) → s.numbers ≤ number → of number s.end.book.entries ≡ [] }
@@ -129,8 +169,8 @@ pub fn headline()
 /// - The history shows no object taken while it runs (`once`). An object whose check was already running
 ///   isn't taken until that run was reported or abandoned (`out`). The numbers of runs continue from those
 ///   that were handed out before (`runs`).
-/// - The clauses about the schedule of the book's callers hold as in `headline` (`entries`,
-///   `strangers`, `made`, `all`).
+/// - The clauses about the schedule of the book's callers hold as in `headline` (`entries`, `strangers`,
+///   `order`, `turn`, `turns`, `first_come`, `bypass`, `unstuck`, `made`, `all`).
 pub fn headline_from_any_state()
     ensures legal { (opened : BookState) (s : Schedule BookState Call Reply) → IsScheduleFrom opened s
         → IsLegal step opened.sched s.end.book.entries }
@@ -150,6 +190,25 @@ pub fn headline_from_any_state()
         → run ≡ opened.sched.runs + runs_begun front + 1 }
     ensures entries { (opened : BookState) (s : Schedule BookState Call Reply) → IsScheduleFrom opened s
         → (number : ℕ) → of number s.end.book.entries ≡ recorded_by number s.happenings }
+    ensures order { (opened : BookState) (s : Schedule BookState Call Reply) → IsScheduleFrom opened s
+        → s.end.book.entries ≡ recordings s.happenings }
+    ensures turn { (opened : BookState) (s : Schedule BookState Call Reply) → IsScheduleFrom opened s
+        → (turn : TurnPart Call Reply) → IsTurnOf s.happenings turn
+        → get_elem? s.end.book.entries (entry_at turn) ≡ some (entry turn.own turn.call turn.reply) }
+    ensures turns { (opened : BookState) (s : Schedule BookState Call Reply) → IsScheduleFrom opened s
+        → (place : ℕ) → place < length s.end.book.entries
+        → (turn : TurnPart Call Reply) × IsTurnOf s.happenings turn × (entry_at turn ≡ place) }
+    ensures first_come { (opened : BookState) (s : Schedule BookState Call Reply) → IsScheduleFrom opened s
+        → (one other : TurnPart Call Reply) → IsTurnOf s.happenings one → IsTurnOf s.happenings other
+        → drawn_at one < drawn_at other → entry_at one < entry_at other }
+    ensures bypass { (opened : BookState) (s : Schedule BookState Call Reply) → IsScheduleFrom opened s
+        → (own ticket : ℕ) (before after : List (Happening Call Reply))
+        → s.happenings ≡ before ++ drew own ticket ∷ after
+        → (i : ℕ) (p : CoreSeat) → get_elem? s.end.seats i ≡ some p
+        → tickets_of p.phase ≡ ticket ∷ [] → turns_ended after < s.numbers }
+    ensures unstuck { (opened : BookState) (s : Schedule BookState Call Reply) → IsScheduleFrom opened s
+        → (i ticket : ℕ) (p : CoreSeat) → get_elem? s.end.seats i ≡ some p
+        → p.phase ≡ Waiting ticket → GoesOn kept_book s.draws s.end }
     ensures strangers { (opened : BookState) (s : Schedule BookState Call Reply) → IsScheduleFrom opened s
         → (number : ℕ) → s.numbers ≤ number → of number s.end.book.entries ≡ [] }
     ensures made { (opened : BookState) (s : Schedule BookState Call Reply) → IsScheduleFrom opened s
@@ -158,6 +217,20 @@ pub fn headline_from_any_state()
         → (i : ℕ) (p : CoreSeat) → get_elem? s.end.seats i ≡ some p
         → length p.numbers ≡ s.numbers
         → calls_handled s.end.book ≡ p.calls + poster_count_of p.phase }
+{}
+
+/// A call that [`Desk::ask`](crate::Desk::ask) answered is a turn of the desk's schedule, after all calls that
+/// its pass knew when it asked (`made`).
+///
+/// The schedule is the one that [`Desk::close`](crate::Desk::close) names, by clause `schedule`. Its history
+/// begins with what the pass has seen after the answer, by the clauses of later calls and of `gather`. What a
+/// pass has seen contains its own calls, those of passes that were gathered into it, and what it glanced at.
+pub fn answered_calls()
+    ensures made { (opened : BookState) (s : Schedule BookState Call Reply) → IsScheduleFrom opened s
+        → (call : Call) (reply : Reply) (before after : Pass)
+        → HasRecorded call reply (pass_of before) (pass_of after)
+        → IsPrefix (pass_of after).seen s.end.book.entries
+        → IsMadeAfter (pass_of before).seen (pass_of before).own call reply s }
 {}
 
 /// A law of every pass, at any time.
