@@ -3,6 +3,7 @@ use Rattle.std.specs.Prelude.{◌≡◌, ◌+◌, ◌<◌, ◌≤◌, ⊤, ℕ, 
 use Rattle.check_desk.specs.declared.desk.Desk.{Desk}
 use Rattle.check_desk.specs.Desks.{desk_opening, passes_of}
 use Rattle.check_desk.specs.Passes.{pass_of}
+use Rattle.check_desk.specs.Schedules.{EndsScheduleFrom}
 use Rattle.check_book.specs.BookState.{book_at}
 use Rattle.check_book.specs.Books.{entries_of, opening_of, refused_of, sched_of, state_of}
 use Rattle.nagsched_handles.specs.declared.desk_pass.DeskPass.{DeskPass}
@@ -51,10 +52,11 @@ IsResting (target.Pass pass) = IsAtRest (pass_state_of pass)
 IsResting other = ⊥
 
 -- The book of a desk whose passes are all gathered in this one. It opened as the desk did, and has the history that the pass has seen. Its entries and
--- refusals are all calls that were made.
+-- refusals are all calls that were made. It is that at the end of a schedule from the desk's opening.
 abbrev pub IsBookAfter : Desk → PassState → NamedBook → Type 0
 IsBookAfter desk (state.Resting pass) named = (opening_of named.book ≡ desk_opening desk) × (passes_of desk ≤ length (pass_of pass).numbers)
     × (entries_of named.book ≡ (pass_of pass).seen) × (length (entries_of named.book) + refused_of named.book ≡ (pass_of pass).calls)
+    × EndsScheduleFrom (desk_opening desk) (passes_of desk) named.book
 IsBookAfter desk other named = ⊥
 
 -- a pass, and the book of its desk, which was closed

@@ -412,8 +412,8 @@ impl<K: Kept> TicketLock<K> {
 
     /// Takes the book out for good, if the seat has all numbers. The seat has seen the whole history, and its
     /// calls are all that were made. The book is that at the end of a schedule of the core (`schedule`), so
-    /// all that [`every_schedule`](ticket_steps::every_schedule) says of such an end holds of it. The call returns the lock and the seat as they were exactly if numbers
-    /// are missing.
+    /// all that [`every_schedule`](ticket_steps::every_schedule) says of such an end holds of it. The call
+    /// returns the lock and the seat as they were exactly if numbers are missing.
     pub fn close(self, seat: Seat<K>) -> Result<K, (TicketLock<K>, Seat<K>)>
         requires { IsSeatOf self seat }
         ensures missing { IsErr result ↔ (length (seat_of seat).numbers < (start_of self).numbers) }

@@ -36,8 +36,7 @@ use crate::books::Kept;
 ///   entry is that of a turn (`turns`);
 /// - first come, first served: if a seat drew before another, its entry stands before the other's
 ///   (`first_come`);
-/// - while a seat waits or holds, fewer turns end than there are numbers (`bypass`). So no caller waits for
-///   more than one call of each other caller;
+/// - while a seat waits or holds, fewer turns end than there are numbers (`bypass`);
 /// - nothing is stuck: while a seat waits, some seat holds, or the seat whose ticket is served waits and holds
 ///   at its next look (`unstuck`);
 /// - the entries of each number are the calls that it recorded, by a post or by a leave, in their order
