@@ -34,3 +34,4 @@ pub mod EachObjectLaws
 pub mod AbandonLaws
 pub mod SavedIndexLaws
 pub mod ResumedRunLaws
+pub mod LastingLaws

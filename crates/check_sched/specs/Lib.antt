@@ -15,3 +15,4 @@ pub mod Flapping
 pub mod Board
 pub mod Saved
 pub mod SavedIndexes
+pub mod Lasting

@@ -21,6 +21,10 @@ ghost use Rattle.check_sched.specs.Runs.{begins, ends, runs_begun, runs_under};
 ghost use Rattle.check_sched.specs.Flapping.{flapping_in, never_checked, reported_states, with_results};
 ghost use Rattle.check_sched.specs.declared.call.Reply.{Reply};
 
+mod lasting;
+
+pub use lasting::never_forgotten;
+
 /// After every sequence of calls of a newly opened scheduler, no more services are being checked than the
 /// option `max_concurrent_checks` allows. 0 means no limit.
 pub fn limit()
