@@ -29,7 +29,7 @@ PROMISES = (
             ("scheduler", "lock"), True),
     Promise("**No recorded call is lost**: each is in the history once, in its caller's order, in every order of the threads' steps",
             ("check_desk laws::headline entries made all",),
-            ("ticket_lock every_step draw look_held post leave", "check_desk Desk::ask answer", "check_desk Desk::close history made"), LIBRARY, ("lock",), True),
+            ("check_desk Desk::ask answer", "check_desk Desk::close schedule history made"), LIBRARY, ("lock",), True),
     Promise("**No state is hard too early**: every verdict is the one in [the table](docs/rules.md#soft-and-hard)",
             ("check_sched laws::standings_are_lawful",), ("check_states verdict table", "check_sched Sched::apply state"), ALL, ("scheduler",), True),
     Promise("**A refused call changes nothing**, and a refused setup creates nothing",
@@ -41,6 +41,10 @@ PROMISES = (
             ("check_sched Sched::save", "check_sched Sched::resume ok"), ALL, ("scheduler",)),
     Promise("After a resume over another setup no check runs twice, except that a smaller limit abandons the runs of services",
             ("check_sched laws::resumed_runs greater out",), ("check_sched Sched::resume ok",), ALL, ("scheduler",)),
+    Promise("Callers are served in the order of their tickets, and each waits for fewer calls than there are callers",
+            ("check_desk laws::headline first_come bypass fair",), ("check_desk Desk::close schedule",), LIBRARY, ("lock",)),
+    Promise("An enabled object whose intervals aren't 0 always has a next check, or is being checked",
+            ("check_sched laws::never_forgotten opened kept told",), ("check_sched Sched::apply state",), ALL, ("scheduler",)),
     Promise("Out of memory loses nothing that was recorded, with one exception: `crew`",
             (), ("check_book Book::record refused full", "check_workers crew errors"), LIBRARY, ("tested",)),
     Promise("A glance reads a standing of the one history, and never an older one than before",
@@ -78,7 +82,7 @@ def contract_of(crate: str, function: str) -> Optional[str]:
         text = text_of(file)
         for match in re.finditer(rf"^( *)(?:pub )?(?:extern \"C\" )?fn {name}\b", text, re.M):
             implemented = re.findall(r"^impl\b.*?(\w+)(?:<.*>)? *\{", text[: match.start()], re.M)
-            if owner in ("", "laws") and (owner == "" or file.name == "laws.rt") or match[1] and implemented and implemented[-1] == owner:
+            if owner in ("", "laws") and (owner == "" or "laws" in (file.stem, file.parent.name)) or match[1] and implemented and implemented[-1] == owner:
                 return re.split(r"^ *\{", text[match.end():], maxsplit=1, flags=re.M)[0]
     return None
 
