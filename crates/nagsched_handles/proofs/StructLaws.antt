@@ -129,7 +129,18 @@ refusal_from_c p = unwrap_or (numbered_error p.kind (place_from_c p)) load.Memor
 
 -- its number and its place are all that there is of it; out of memory has no number here
 error_numbered : (e : LoadError) (p : Place) → unwrap_or (numbered_error (error_number e) (unwrap_or (place_of e) p)) load.Memory ≡ e
-error_numbered e p = grind arith
+error_numbered load.TooLong p = refl
+error_numbered load.NotJson p = refl
+error_numbered (load.Shape q) p = refl
+error_numbered load.TooMany p = refl
+error_numbered (load.BadName q) p = refl
+error_numbered (load.Duplicate q) p = refl
+error_numbered (load.UnknownHost q) p = refl
+error_numbered (load.UnknownMaster q) p = refl
+error_numbered (load.Range q) p = refl
+error_numbered load.DependencyCycle p = refl
+error_numbered load.ParentCycle p = refl
+error_numbered load.Memory p = refl
 
 pub refusal_is : (e : LoadError) → refusal_from_c (c_refusal e) ≡ e
 refusal_is e =
