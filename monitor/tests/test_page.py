@@ -137,6 +137,13 @@ class Page(PageTest):
             found = [text for text in texts if text.endswith(("in time", "1 min.", "missing.", "checked.", "wrong."))]
             self.assertEqual(found, wanted)
 
+    def test_silence_and_a_wrong_clock(self) -> None:
+        """A monitor is silent by the time since the machine was started, wherever the clock is; by the clock if the machine was started again since."""
+        for written, uptime, wanted in ((3_600, 0, False), (-3_600, 0, False), (3_600, -60, True), (-60, 1_000_000_000, True), (0, 1_000_000_000, False)):
+            now = time.clock_gettime(time.CLOCK_BOOTTIME)
+            status = SiteStatus(time.time(), [], {"written_at": time.time() + written, "uptime": now + uptime})
+            self.assertEqual(status.silent_seconds() is not None, wanted, (written, uptime))
+
     def test_what_status_says(self) -> None:
         """The command `status` says too that results are missing."""
         fill_database(self.folder, [standing("a")], {"overdue": 3, "promised": 4})

@@ -1,4 +1,5 @@
 """A site as other processes show it, read from its database, which is opened for reading only."""
+import math
 import pathlib
 import sqlite3
 import time
@@ -55,7 +56,9 @@ class SiteStatus(NamedTuple):
 
     def silent_seconds(self) -> Optional[float]:
         """The seconds for which the monitor has written nothing, if it counts as silent; None while it is at work."""
-        silent = self.now - self.figures.get("written_at", 0.0)
+        # By the time since the machine was started, which nobody sets. The wall clock counts if the machine was started again since then.
+        silent = time.clock_gettime(time.CLOCK_BOOTTIME) - self.figures.get("uptime", math.inf)
+        silent = silent if silent >= 0 else self.now - self.figures.get("written_at", 0.0)
         return silent if silent > SILENCE else None
 
 

@@ -14,6 +14,7 @@ The names of the stored figures, and their meanings:
     saved_at              when the state was saved last, in seconds since 1970
     moment                the moment at which these were written
     begun_at, written_at  when this monitor began, and when it wrote its figures last
+    uptime                the seconds since the machine was started when these were written: a wrong clock doesn't change them
     checks_a_second       results per second, over the last minute or since this monitor began
     latest_start          the most seconds by which a check was late, since this monitor began
     latest_start_lately   the same of the last minute
@@ -22,6 +23,7 @@ The names of the stored figures, and their meanings:
 """
 import bisect
 import collections
+import time
 from typing import DefaultDict, Deque, Dict, Mapping, Tuple
 
 from ..model.clock import Clock
@@ -85,7 +87,8 @@ class Counters:
         first, count, _ = self._moments[0]
         rate = round((self.result_count - count) * 1000 / (now - first), 3) if now > first else 0.0
         lately = max(latest for _, _, latest in self._moments)
-        of_this_run = {"calls": calls, "begun_at": self._started_at, "written_at": self._clock.wall(), "checks_a_second": rate, "moment": now}
+        of_this_run = {"calls": calls, "begun_at": self._started_at, "written_at": self._clock.wall(), "checks_a_second": rate, "moment": now,
+                       "uptime": time.clock_gettime(time.CLOCK_BOOTTIME)}
         values = {**self._values, **of_this_run, **others, "latest_start": self.latest_start / 1000, "latest_start_lately": lately / 1000}
         return {name: value for name, value in values.items() if self._written.get(name) != value}
 
