@@ -242,11 +242,9 @@ class Running(ProcessTest):
         self.stop_monitor(self.start_monitor("--on-change", f"cat >> {again}"))
         self.assertEqual([json.loads(line)["name"] for line in again.read_text().splitlines()], ["h01"])
         self.write("monitor.json", {"on_change": "if"})
-        self.assertIn("the command for changes: ", subprocess.run([sys.executable, str(MONITOR), "--program", PROGRAM, str(self.folder)], capture_output=True,
-                                                                  text=True, check=False).stderr)
+        self.assertIn("the command for changes: ", self.refusal())
         self.write("monitor.json", {"page": "nowhere"})
-        self.assertIn("no ADDRESS:PORT", subprocess.run([sys.executable, str(MONITOR), "--program", PROGRAM, str(self.folder)], capture_output=True,
-                                                        text=True, check=False).stderr)
+        self.assertIn("no ADDRESS:PORT", self.refusal())
 
     def test_a_database_that_is_gone(self) -> None:
         """The monitor is stuck by name, answers that the request may come again, and goes on when the file is back."""
@@ -271,12 +269,18 @@ class Running(ProcessTest):
         with contextlib.closing(sqlite3.connect(self.folder / "monitor.db")) as database:
             database.execute("UPDATE calls SET line = 'x' WHERE id = (SELECT max(id) FROM calls)")
             database.commit()
-        refused = subprocess.run([sys.executable, str(MONITOR), "--program", PROGRAM, str(self.folder)], capture_output=True, text=True, check=False)
-        self.assertEqual((refused.returncode, f"nagsched-monitor {self.folder} drop-calls" in refused.stderr), (1, True))
+        self.assertIn(f"nagsched-monitor {self.folder} drop-calls", self.refusal())
         dropped = self.run_command("drop-calls")
         self.assertEqual((dropped.returncode, "calls since the last saved states are dropped" in dropped.stdout), (0, True))
         self.start_monitor()
         self.assertTrue(becomes_true(lambda: bool(self.signs()["made"] > 2)))
+
+    def refusal(self) -> str:
+        """The words of a monitor that doesn't start."""
+        command = [sys.executable, str(MONITOR), "--program", PROGRAM, str(self.folder)]
+        refused = subprocess.run(command, capture_output=True, text=True, check=False, timeout=2 * LONG)
+        self.assertEqual(refused.returncode, 1)
+        return refused.stderr
 
     def signs(self) -> Dict[str, Any]:
         signs: Dict[str, Any] = json.loads(client.send_request(self.folder, b'{"do":"signs"}'))
