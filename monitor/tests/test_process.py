@@ -239,7 +239,9 @@ class Running(ProcessTest):
         output = self.stop_monitor(running)
         self.assertEqual(("the page is at http://127.0.0.1:" in output, "asked: result" in output), (True, False))
         again = self.folder / "again"
-        self.stop_monitor(self.start_monitor("--on-change", f"cat >> {again}"))
+        running = self.start_monitor("--on-change", f"cat >> {again}")
+        self.assertTrue(becomes_true(lambda: again.exists() and again.read_text().endswith("\n")))
+        self.stop_monitor(running)
         self.assertEqual([json.loads(line)["name"] for line in again.read_text().splitlines()], ["h01"])
         self.write("monitor.json", {"on_change": "if"})
         self.assertIn("the command for changes: ", self.refusal())
