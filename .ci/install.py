@@ -52,10 +52,14 @@ def check_installed(program, prefix, work):
     (work / "site/commands.json").write_text(json.dumps({"gateway": {"line": "true"}}))
     tested = command_output(prefix / "bin/nagsched-monitor", "--program", prefix / "bin/nagsched", work / "site", "test")
     yield "the monitor", tested, ("1 objects, 1 parts\n", 0)
+    version = (TOP / "VERSION").read_text()
+    yield "the monitor's version", command_output(prefix / "bin/nagsched-monitor", "--version"), (f"nagsched-monitor {version}", 0)
     job = '{"job":1,"words":["echo","fine"],"limit":9}'
     ran = command_output("sh", "-c", f"(echo '{job}'; sleep 1) | {prefix}/bin/nagsched-runner")
     yield "the runner", ran, ('{"job":1,"code":0,"end":"exited","output":"fine\\u000a"}\n', 0)
     yield "the worker", command_output(prefix / "bin/nagsched-gearman-worker", "--help")[1], 0
+    own = {file.name for file in (TOP / "tools").glob("*nagios*.py")}
+    yield "the converter's modules that are missing", own - {file.name for file in (prefix / "lib/nagsched").iterdir()}, set()
     yield "from Nagios", command_output(prefix / "bin/nagsched-from-nagios", "--help")[1], 0
     yield "the manual pages", [name for name in sorted(manual) if not name.endswith(".3")], ["nagsched-from-nagios.1", "nagsched-monitor.1", "nagsched.1", "nagsched.5"]
     functions = re.findall(r"\b(nagsched_\w+)\(", re.sub(r"/\*.*?\*/", "", (TOP / "include/nagsched.h").read_text(), flags=re.DOTALL))

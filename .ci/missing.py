@@ -107,12 +107,20 @@ def try_rows() -> Iterator[Row]:
     yield "tools/try.sh", (ran.returncode, said), (0, [True, is_unproved])
 
 
+def stage_rows() -> Iterator[Row]:
+    """tools/try.sh says which stage it is in for as long as the stage lasts, and one that doesn't end is ended."""
+    code = "import pathlib, unproved\nunproved.NEWS, unproved.LIMIT = 0.2, {}\nprint(unproved.run('reading', ['sleep', '1'], pathlib.Path('.')).returncode)"
+    for limit, status, wanted in ((60, 0, "s  still reading\n"), (0, 1, "unproved.Failure: reading: it didn't end within 0 minutes")):
+        ran = subprocess.run([sys.executable, "-c", code.format(limit)], cwd=TOP / "tools", stdout=subprocess.PIPE, stderr=subprocess.STDOUT, text=True, timeout=LIMIT, check=False)
+        yield f"a stage of at most {limit} seconds", (ran.returncode, wanted in ran.stdout), (status, True)
+
+
 def main(program: str) -> int:
     passed, wrong = 0, 0
     with tempfile.TemporaryDirectory() as name:
         folder = pathlib.Path(name)
         link_programs(folder)
-        for what, came, wanted in (*needed_rows(folder), *compiler_rows(folder, program), *optional_rows(folder), *try_rows()):
+        for what, came, wanted in (*needed_rows(folder), *compiler_rows(folder, program), *optional_rows(folder), *stage_rows(), *try_rows()):
             if came == wanted:
                 passed += 1
             else:

@@ -36,10 +36,11 @@ done
 place 755 "$top/monitor/nagsched-gearman-runner" lib/nagsched/nagsched-gearman-runner
 place 755 "$runner" lib/nagsched/nagsched-runner
 ln -sf ../lib/nagsched/nagsched-runner "$root/bin/nagsched-runner"
-for script in from_nagios nagios_commands nagios_groups nagios_notifications nagios_objects nagios_parts nagios_periods nagios_site nagios_values; do
-    place 644 "$top/tools/$script.py" "lib/nagsched/$script.py"
+for module in "$top"/tools/nagios_*.py; do
+    place 644 "$module" "lib/nagsched/$(basename "$module")"
 done
-chmod 755 "$root/lib/nagsched/from_nagios.py"
+place 755 "$top/tools/from_nagios.py" lib/nagsched/from_nagios.py
+place 644 "$top/VERSION" lib/nagsched/VERSION
 ln -sf ../lib/nagsched/from_nagios.py "$root/bin/nagsched-from-nagios"
 unit=$(mktemp)
 manual=$(mktemp -d)

@@ -36,7 +36,7 @@ def states_of(folder: pathlib.Path, program: str, count: int, seconds: float = 1
             time.sleep(0.5)
             printed = subprocess.run([sys.executable, str(MONITOR), str(folder), "status"], stdout=subprocess.PIPE, stderr=subprocess.DEVNULL, text=True,
                                      check=False)
-            lines = [re.fullmatch(r"(\w+) \w+ \d+(?: FLAPPING| out| off)* ([^:]*): (.*)", line) for line in printed.stdout.splitlines()]
+            lines = [re.fullmatch(r"(\w+) +\w+ \d+ +(?:(?:FLAPPING|running|off) +)*([^:]*): *(.*)", line) for line in printed.stdout.splitlines()]
             found = {line.group(2): [line.group(1), line.group(3)] for line in lines if line and line.group(1) != "PENDING"}
     finally:
         running.terminate()

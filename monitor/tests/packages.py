@@ -148,8 +148,8 @@ class Site:
     def status(self) -> Dict[str, Tuple[str, str]]:
         """The state and the output of each object, as the monitor prints them."""
         printed = subprocess.run([sys.executable, str(MONITOR), str(self.folder), "status"], stdout=subprocess.PIPE, text=True, check=False).stdout
-        found = [re.fullmatch(r"(\w+) \w+ \d+(?: FLAPPING| out| off)* ([^:]*): (.*)", line) for line in printed.splitlines()]
-        return {match.group(2): (match.group(1), match.group(3).partition("|")[0]) for match in found if match}
+        found = [re.fullmatch(r"(\w+) +\w+ \d+ +(?:(?:FLAPPING|running|off) +)*([^:]*): *(.*)", line) for line in printed.splitlines()]
+        return {match.group(2): (match.group(1), match.group(3)) for match in found if match}
 
 
 def page(cgis: pathlib.Path, site: Site, name: str, query: str, posted: str = "", cookie: str = "") -> str:

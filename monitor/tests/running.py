@@ -43,8 +43,9 @@ class ProcessTest(SiteTest):
         return subprocess.run([sys.executable, str(MONITOR), str(self.folder), *words], capture_output=True, text=True, check=False)
 
     def states(self) -> List[str]:
-        """The lines of `status`, without the word for a running check."""
-        return [line.replace(" out ", " ", 1) for line in self.run_command("status").stdout.splitlines()]
+        """The lines of `status` in the order of names, with single spaces and without the word for a running check."""
+        lines = [" ".join(line.split()).replace(" running ", " ", 1) for line in self.run_command("status").stdout.splitlines()]
+        return sorted(lines, key=lambda line: line.partition(":")[0].split()[-1])
 
     def await_states(self, wanted: List[str]) -> None:
         """Waits until each object has this standing. A running check doesn't matter: the next one may have begun."""

@@ -195,8 +195,8 @@ class Process(ProcessTest):
         self.wait(lambda: self.runs("h00;ssh") == 3)
         self.command("PROCESS_SERVICE_CHECK_RESULT;h00;http;2;no answer;at all", "PROCESS_HOST_CHECK_RESULT;h01;1;it is gone")
         self.command("REMOVE_HOST_ACKNOWLEDGEMENT;h00", "ENABLE_HOST_CHECK;h07", "nonsense")
-        self.wait(lambda: "CRITICAL HARD 1 h00;http: no answer;at all" in self.run_command("status").stdout)
-        self.wait(lambda: "DOWN SOFT 1 h01: it is gone" in self.run_command("status").stdout)
+        self.wait(lambda: "CRITICAL HARD 1 h00;http: no answer;at all" in self.states())
+        self.wait(lambda: "DOWN SOFT 1 h01: it is gone" in self.states())
         # A burst, and no result of it is lost: each is another state than the one before.
         self.command(*[f"PROCESS_SERVICE_CHECK_RESULT;h00;http;{number % 3};number {number}" for number in range(300)])
         self.wait(lambda: ": number 299" in self.run_command("status", "h00;http").stdout)
@@ -230,8 +230,8 @@ class Process(ProcessTest):
         def same() -> bool:
             files.write()
             blocks = objects_of((self.nagios / "status.dat").read_bytes())
-            lines = self.run_command("status").stdout.splitlines()
-            return len(lines) == 4 and "PENDING" not in "".join(lines) and [line_of(name, blocks[name]) for name in sorted(blocks)] == lines
+            lines = self.states()
+            return len(lines) == 4 and "PENDING" not in "".join(lines) and [line_of(name, blocks[name]).partition("|")[0] for name in sorted(blocks)] == lines
 
         self.wait(same)
 

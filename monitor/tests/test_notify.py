@@ -84,7 +84,7 @@ class Notices(SiteTest):
         said: List[str] = []
 
         def is_up() -> bool:
-            said[:] = [subprocess.run(words, capture_output=True, text=True, check=True).stdout.replace(" out", "")]
+            said[:] = [subprocess.run(words, capture_output=True, text=True, check=True).stdout.replace(" running", "")]
             return said == ["UP HARD 1 web: 0\n"]
 
         becomes_true(is_up)

@@ -112,7 +112,7 @@ class Refused(PageTest):
         for path in ("/", "/status.json", "/metrics", "/object?name=h"):
             status, _, text = self.request(path)
             self.assertEqual((status, text.count("\n")), (503, 1))
-            self.assertTrue(text.startswith("monitor.db can't be read: "), text)
+            self.assertTrue(text.startswith(f"{self.folder}/monitor.db doesn't exist: "), text)
         self.assertFalse((self.folder / "monitor.db").exists())
         (self.folder / "monitor.db").write_text("this is no database" * 100)
         self.assertEqual(self.request("/")[0], 503)
@@ -124,7 +124,7 @@ class Refused(PageTest):
         database.execute("PRAGMA journal_mode=DELETE")
         database.execute("BEGIN EXCLUSIVE")
         status, _, text = self.request("/")
-        self.assertEqual((status, text), (503, "monitor.db can't be read: database is locked\n"))
+        self.assertEqual((status, text), (503, f"{self.folder}/monitor.db can't be read: database is locked\n"))
         database.execute("ROLLBACK")
         database.close()
         self.assertEqual(self.request("/")[0], 200)

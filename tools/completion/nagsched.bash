@@ -10,7 +10,7 @@ _nagsched() {
 }
 _nagsched_monitor() {
     local word=${COMP_WORDS[COMP_CWORD]}
-    mapfile -t COMPREPLY < <(compgen -W "test status reschedule enable disable default result reload save notify-test drop-calls stop --program --alertmanager --on-change --page --page-url --page-name --textfile --nagios-files --help" -- "$word"
+    mapfile -t COMPREPLY < <(compgen -W "test status reschedule enable disable default result reload save notify-test drop-calls stop --program --alertmanager --on-change --page --page-url --page-name --textfile --nagios-files --version --help" -- "$word"
         compgen -d -- "$word")
 }
 complete -F _nagsched nagsched

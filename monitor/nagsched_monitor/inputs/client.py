@@ -6,6 +6,7 @@ import time
 from typing import List, Sequence
 
 from ..faults import MonitorFault
+from ..system.users import owner_advice
 
 NAME = "monitor.socket"
 # The pause before the next try to connect, in seconds.
@@ -45,8 +46,9 @@ def send_requests(folder: pathlib.Path, requests: Sequence[bytes], seconds: floa
             while len(answers) < len(requests) and (line := lines.readline()).endswith(b"\n"):
                 answers.append(line)
     except (FileNotFoundError, ConnectionRefusedError):
-        raise MonitorFault(f"no monitor runs on {folder}") from None
+        raise MonitorFault(f"no monitor runs on {folder}: start it, or name the folder of a site whose monitor runs") from None
     except OSError as error:
         if not answers:
-            raise MonitorFault(f"the monitor of {folder} doesn't answer: {error.strerror or error}") from None
+            advice = owner_advice(folder / NAME) if isinstance(error, PermissionError) else ""
+            raise MonitorFault(f"the monitor of {folder} doesn't answer: {error.strerror or error}{advice}") from None
     return answers

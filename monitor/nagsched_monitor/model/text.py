@@ -17,3 +17,8 @@ def plain_text(text: str, most: int = MOST_OUTPUT_BYTES) -> str:
 
 def first_line(text: str) -> str:
     return text.partition("\n")[0]
+
+
+def first_output(text: str) -> str:
+    """The first line of a plugin's output, without performance data."""
+    return first_line(text).partition("|")[0].rstrip()

@@ -7,6 +7,7 @@ from contextlib import closing, contextmanager
 from typing import Iterator, List, Mapping, NamedTuple, Optional, Sequence, Tuple
 
 from ..store.rows import StoredChange, StoredStanding
+from ..system.users import owner_advice
 
 DAY = 86_400
 # The limit of the wait for a locked database, in seconds.
@@ -72,6 +73,17 @@ class ObjectStatus(NamedTuple):
     is_cut: bool
 
 
+def unreadable(path: pathlib.Path, error: sqlite3.Error) -> str:
+    """Why a database can't be read, and what to do."""
+    try:
+        path.stat()
+    except FileNotFoundError:
+        return f"{path} doesn't exist: name the folder of a site whose monitor has run"
+    except OSError:
+        pass  # a folder above it is closed
+    return f"{path} can't be read: {error}{owner_advice(path)}"
+
+
 @contextmanager
 def open_database(folder: pathlib.Path) -> Iterator[sqlite3.Connection]:
     """The database of a site as it is at one moment. It can't be written."""
@@ -82,7 +94,7 @@ def open_database(folder: pathlib.Path) -> Iterator[sqlite3.Connection]:
             database.execute("BEGIN")
             yield database
     except sqlite3.Error as error:
-        raise StatusUnavailable(f"monitor.db can't be read: {error}") from None
+        raise StatusUnavailable(unreadable(folder / "monitor.db", error)) from None
 
 
 def read_standings(database: sqlite3.Connection, members: str, condition: str = "", *cells: str) -> List[StoredStanding]:

@@ -1,7 +1,19 @@
-"""The record of how the program nagsched was built. Its build writes it beside the program, and an installation has it in share/nagsched."""
+"""The monitor's version, and the record of how the program nagsched was built.
+
+The build writes the record next to the program, and an installation has it in share/nagsched.
+"""
 import hashlib
 import pathlib
 import shutil
+
+# The folder of the monitor's package: lib/nagsched of an installation, which has a file VERSION, or a folder of a checkout, which has it one level up.
+HOME = pathlib.Path(__file__).resolve().parents[2]
+
+
+def own_version() -> str:
+    """The version of the monitor."""
+    found = [file for file in (HOME / "VERSION", HOME.parent / "VERSION") if file.is_file()]
+    return found[0].read_text(encoding="utf-8").strip() if found else "of an unknown version: there is no file VERSION"
 
 
 def build_line(program: str) -> str:

@@ -12,13 +12,13 @@ from typing import Any, Dict, List, Optional
 
 from ..faults import MonitorFault, NotStored
 from ..inputs.client import send_request
-from ..model.text import first_line
+from ..outputs.status_lines import clock_time, status_complaints, status_lines
 from ..outputs.status_query import StatusUnavailable, read_site_status
 from ..site.site import read_site
-from ..store.rows import StoredStanding
 from ..store.store import Store
 from ..system import addresses
 from ..system.log import Log
+from .build_record import own_version
 from .monitor import Monitor
 from .site_reader import LIMIT as READING_LIMIT
 
@@ -47,22 +47,24 @@ def parse_code(text: str) -> int:
 
 
 def default_program() -> str:
-    """The program nagsched: on the path, or next to the script that was started."""
-    beside = pathlib.Path(sys.argv[0]).parent / "nagsched"
-    return str(beside) if shutil.which("nagsched") is None and os.access(beside, os.X_OK) else "nagsched"
+    """The program nagsched: on the path, next to the script that was started, or where a checkout builds it."""
+    folder = pathlib.Path(sys.argv[0]).parent
+    built = [place for place in (folder / "nagsched", folder / "../crates/nagsched/out/nagsched") if os.access(place, os.X_OK)]
+    return str(built[0]) if built and shutil.which("nagsched") is None else "nagsched"
 
 
 def parse_arguments(given: Optional[List[str]]) -> argparse.Namespace:
     parser = argparse.ArgumentParser(prog="nagsched-monitor", usage="nagsched-monitor [OPTION ..] DIR [COMMAND ..]",
                                      description="Monitors a site: it runs plugins, and nagsched decides which is due.")
+    parser.add_argument("--version", action="version", version=f"nagsched-monitor {own_version()}", help="print the version and end")
     parser.add_argument("folder", metavar="DIR", type=pathlib.Path, help="the folder of the site")
-    parser.add_argument("--program", default=default_program(), metavar="PATH", help="the program nagsched; on the path or next to this one without it")
+    parser.add_argument("--program", default=default_program(), metavar="PATH", help="the program nagsched; without it, on the path, next to this one, or built in this checkout")
     parser.add_argument("--alertmanager", action="append", default=[], metavar="URL", help="post standing problems to this Alertmanager; several may be named")
     parser.add_argument("--on-change", metavar="COMMAND", help="run this for hard changes, with a line of JSON for each on its standard input")
     parser.add_argument("--page", metavar="ADDRESS:PORT", help="show a page for browsers there, and figures for Prometheus")
     parser.add_argument("--page-url", metavar="URL", help="where people reach the page, for links in alerts; http://ADDRESS:PORT/ without it")
     parser.add_argument("--page-name", action="append", default=[], metavar="NAME",
-                        help="a name by which browsers reach the page, besides addresses and localhost")
+                        help="a name by which browsers reach the page, as well as addresses and localhost")
     parser.add_argument("--textfile", metavar="FILE", type=pathlib.Path, help="keep the figures in this file, for node_exporter's textfile collector")
     parser.add_argument("--nagios-files", metavar="DIRECTORY", type=pathlib.Path, help="keep Nagios's status.dat and its pipe nagios.cmd there")
     add_commands(parser)
@@ -93,11 +95,6 @@ def add_commands(parser: argparse.ArgumentParser) -> None:
         commands.add_parser(word, help=what)
 
 
-def clock_time(seconds: float) -> str:
-    """A time in this machine's zone."""
-    return datetime.datetime.fromtimestamp(round(seconds)).astimezone().isoformat(sep=" ", timespec="seconds")
-
-
 def answer_text(answer: Dict[str, Any]) -> str:
     """An answer as lines of text."""
     if "at" in answer:
@@ -106,24 +103,16 @@ def answer_text(answer: Dict[str, Any]) -> str:
     return "\n".join([f"{answer['done']}: {answer.get('name', 'done')}", *others, *answer.get("changed", ())])
 
 
-def standing_line(it: StoredStanding, is_long: bool) -> str:
-    marks = "".join(word for word, there in ((" FLAPPING", it.flapping), (" out", it.out_since is not None), (" off", not it.is_on)) if there)
-    next_check = f"; next check {'none' if it.next_check is None else clock_time(it.next_check)}" if is_long else ""
-    return f"{it.state} {it.kind} {it.attempt}{marks} {it.name}: {first_line(it.words)}{next_check}"
-
-
 def print_status(arguments: argparse.Namespace) -> int:
-    """Prints the states of objects from the database of a site. The exit status is 1 if no monitor is at work."""
+    """Prints the states of objects from the database of a site. The exit status is 1 if no monitor is at work, or no object has such a name."""
     exact = read_site_status(arguments.folder, "WHERE name = ?", arguments.pattern)
     status = exact if exact.objects else read_site_status(arguments.folder, "WHERE name GLOB ?", arguments.pattern)
-    print("\n".join(standing_line(it, arguments.long) for it in status.objects) or "no object has such a name")
-    overdue, promised = status.overdue()
-    if overdue:
-        print(f"nagsched-monitor: {overdue} of {promised} objects have no result in time: their states are old", file=sys.stderr)
-    silent = status.silent_seconds()
-    if silent is not None:
-        print(f"nagsched-monitor: the monitor has written nothing for {silent:.0f} seconds: this is how objects were then", file=sys.stderr)
-    return int(silent is not None)
+    lines, complaints = status_lines(status, arguments.long), status_complaints(status)
+    if not lines:
+        complaints.append(f"no object of {arguments.folder} has the name {arguments.pattern!r}: `status` without a name lists all")
+    sys.stdout.write("".join(f"{line}\n" for line in lines))
+    sys.stderr.write("".join(f"nagsched-monitor: {complaint}\n" for complaint in complaints))
+    return int(not lines or status.silent_seconds() is not None)
 
 
 def ask_monitor(arguments: argparse.Namespace) -> int:
