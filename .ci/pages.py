@@ -18,6 +18,7 @@ import anchors
 import commands
 import figures
 import generated
+import messages
 import needs
 import promises
 import style
@@ -146,8 +147,20 @@ def compare_methods(page):
             compare(f"{page.name}: parameters of {name}", True, parameters in known[name])
 
 
+def compare_messages():
+    """The texts in code are found in each language, and comments aren't."""
+    for name, code in (
+        ("a.py", '"""It is given up."""\nprint(f"{1}: it is given up")'),
+        ("a.c", '/* "it is given up" */ puts("it is \\"given up\\""); // it is "given up"'),
+        ("a.sh", "# it is 'given up'\necho 'it is given up'"),
+    ):
+        found = [fault for _, text in messages.texts_of(name, code) for fault in messages.faults_of(text, style.WORDS)]
+        compare(f"plainer words for messages in {name}", 1, len(found))
+
+
 def main():
     run_examples()
+    compare_messages()
     compare_methods(TOP / "docs/embedding-python.md")
     for page in anchors.PAGES:
         text = anchors.text_of(page)

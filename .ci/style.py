@@ -1,9 +1,10 @@
 #!/usr/bin/env python3
-"""Tests the form of the pages: sizes, sentences, openings, tables, code blocks, and words that other programs don't use so.
+"""Tests the form of the pages and the words of messages: sizes, sentences, openings, tables, code blocks, and words that other programs don't use so.
 
-    .ci/style.py [PAGE ..]     all pages if none is named
+    .ci/style.py [PAGE ..]     all pages and messages if none is named
 
-Generated text and code aren't read. .ci/pages.py does the same in the gate. The last line has the sums: bytes, words per sentence, habits.
+Generated text isn't read, and of code only its texts (.ci/messages.py). .ci/pages.py does the same in the gate. The last line has the sums: bytes, words
+per sentence, habits.
 """
 import pathlib
 import re
@@ -11,6 +12,7 @@ import sys
 from typing import Iterator
 
 import anchors
+import messages
 
 PAGE_BYTES, ALL_BYTES, CODE_LINES = 16_000, 250_000, 25
 SENTENCE_WORDS, MEAN_WORDS, HABITS = 40, 17.0, 150
@@ -19,7 +21,7 @@ VERBS = r"(?:is|are|can|explains?|describes?|lists?|shows?|helps?|says?|tells?|d
 # Words that have a plainer alternative, and that alternative.
 WORDS = {
     "anew": "again", "beside": "next to, with", "besides": "also", "whoever": "you, the caller", "whatever": "every, any", "by hand": "manually",
-    "but for": "except", r"some \d": "about", "so many": "a number of", r"(?:is|are|was|were) none": "there is no", "at hand": "available", "stands?": "is",
+    "but for": "except", r"some \d": "about", "so many": "a number of", r"(?:is|are|was|were) none": "there is no", "at hand": "available", r"stands?(?! (?:for|still)\b)": "is",
     r"(?:go|goes|going|gone|went) on": "continue, resume", r"(?:give|gives|given|giving|gave) up": "abandon, time out", "alike": "in the same way",
     r"(?:is|are|be) had": "get", "want of": "lack of", r"goes by|go by": "follows",
 }
@@ -132,6 +134,7 @@ def all_faults() -> Iterator[str]:
     for name, page in pages.items():
         yield from (f"{name}: {fault}" for fault in faults(page))
     yield from dead_links()
+    yield from messages.faults(WORDS)
     size, mean, habits = page_sums(pages)
     if size > ALL_BYTES or mean > MEAN_WORDS or habits > HABITS:
         yield f"all pages: {size:,} bytes (at most {ALL_BYTES:,}), {mean:.1f} words per sentence ({MEAN_WORDS}), {habits} habits ({HABITS})"
@@ -140,7 +143,7 @@ def all_faults() -> Iterator[str]:
 def main() -> int:
     named = {word: anchors.text_of(pathlib.Path(word)) for word in sys.argv[1:]} or {anchors.name_of(page): anchors.text_of(page) for page in anchors.PAGES}
     wrong = [f"{name}: {fault}" for name, page in named.items() for fault in faults(page)]
-    wrong += [] if sys.argv[1:] else dead_links()
+    wrong += [] if sys.argv[1:] else [*dead_links(), *messages.faults(WORDS)]
     size, mean, habits = page_sums(named)
     print("\n".join([*wrong, f"{len(wrong)} faults; {size:,} bytes, {mean:.1f} words per sentence, {habits} habits"]))
     return 1 if wrong else 0

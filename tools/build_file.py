@@ -1,5 +1,5 @@
 #!/usr/bin/env python3
-"""Records how a program was built, in a file beside it: NAME.build.
+"""Records how a program was built, in a file next to it: NAME.build.
 
     tools/build_file.py write PROGRAM (proved | unproved)    after a build: writes the file
     tools/build_file.py show PROGRAM                         prints it as one line
@@ -7,7 +7,7 @@
     tools/build_file.py copy PROGRAM COPY FILE               writes the record of a program, as FILE, for its installed or stripped copy
 
 The file has the version, the commit, the kit, whether the program is proved, and the checksums of its sources and of the program. A record with another
-checksum is of another program, and counts as none. It is a note for people: whoever can write the program can write the file too.
+checksum is of another program, and counts as none. It is a note for people: a person who can write the program can write the file too.
 """
 import hashlib
 import pathlib

@@ -82,7 +82,7 @@ TELLING = {
 # Options that a site has, but a setup alone doesn't.
 OF_A_SITE = {
     "use_timezone": "times are those of the machine's zone",
-    **dict.fromkeys(("service_check_timeout", "host_check_timeout", "service_check_timeout_state"), "whoever takes a check decides when it has timed out"),
+    **dict.fromkeys(("service_check_timeout", "host_check_timeout", "service_check_timeout_state"), "the program that runs a check decides when it has timed out"),
     "cached_host_check_horizon": "a host is checked when its time comes",
     **dict.fromkeys(("check_service_freshness", "check_host_freshness", "additional_freshness_latency"), "nothing is checked for being stale"),
     "resource_file": "it is read for command lines only",
@@ -102,7 +102,7 @@ def options_of(read: Members, left_out: LeftOut) -> Dict[str, object]:
 
 NOTHING_HERE = {
     "timeperiod": "a check is due at any time of the day",
-    "command": "whoever takes a check runs its plugin",
+    "command": "the program that takes a check runs its plugin",
     **dict.fromkeys(("contact", "contactgroup"), "receivers and routes of Alertmanager take its place, and you write them"),
     **dict.fromkeys(("hostescalation", "serviceescalation"), "a nested route of Alertmanager takes its place, and you write it"),
     "hostgroup": "Nagios has written out what they stand for",

@@ -24,7 +24,7 @@ def options_of(value: Value, words: Mapping[str, str]) -> List[str]:
     letters = [letter.strip() for letter in value.split(",")]
     for letter in letters:
         if letter not in (*words, "s", "n", "a"):
-            value.refuse(f"notification_options: {letter!r} is none of {', '.join((*words, 's', 'n', 'a'))}")
+            value.refuse(f"notification_options: {letter!r} has to be one of {', '.join((*words, 's', 'n', 'a'))}")
     return [word for letter, word in words.items() if "n" not in letters and ("a" in letters or letter in letters)]
 
 

@@ -7,7 +7,7 @@ TAKEN = {"host_name", "service_description", "parents", "check_interval", "retry
 # Members without a counterpart: the values at which they change nothing, their kind, and the effect here.
 MEMBERS: Dict[str, Tuple[Tuple[str, ...], str, str]] = {
     "check_period": ((), "check_period", "a check is due at any time of the day"),
-    "check_command": ((), "check_command", "whoever takes a check runs its plugin"),
+    "check_command": ((), "check_command", "the program that takes a check runs its plugin"),
     "passive_checks_enabled": (("1",), "passive_checks_enabled 0", "a passive result of it is taken all the same"),
     "initial_state": (("o",), "initial_state", "an object begins as OK or UP, never checked"),
     "flap_detection_enabled": (("1",), "flap_detection_enabled 0", "flapping is reported of every object"),
@@ -18,7 +18,7 @@ MEMBERS: Dict[str, Tuple[Tuple[str, ...], str, str]] = {
     "freshness_threshold": (("0",), "check_freshness", "nothing is checked for being stale"),
     "is_volatile": (("0",), "is_volatile", "a problem that comes again is no new one"),
     "obsess": (("0", "1"), "", ""),
-    "parallelize_check": (("1",), "parallelize_check 0", "its check runs beside others"),
+    "parallelize_check": (("1",), "parallelize_check 0", "its check runs while others do"),
     "event_handler": ((), "event_handler", "no event handler is run"),
     "event_handler_enabled": (("0", "1"), "", ""),
     "importance": (("0",), "importance", "it decides nothing"),
@@ -89,7 +89,7 @@ def service_of(members: Members, place: str, left_out: LeftOut) -> Setup:
     host = required(members, "host_name", place)
     description = name_of(required(members, "service_description", place))
     if members.get("parents"):
-        left_out.add("parents of services", "a service is checked whatever the services are that it names as parents", f"{host};{description}")
+        left_out.add("parents of services", "a service is checked in any state of its parents", f"{host};{description}")
     return {"host": str(host), "description": description} | timing_members(members, place, left_out, f"{host};{description}")
 
 

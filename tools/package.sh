@@ -77,7 +77,7 @@ package() {
     done
     mkdir -p "$folder/usr/share/doc/$name" "$folder/DEBIAN"
     cp "$top/CHANGELOG.md" "$folder/usr/share/doc/$name/"
-    printf 'nagsched (%s) unstable; urgency=medium\n\n  * CHANGELOG.md beside this file has what changed.\n\n -- %s  %s\n' "$version" "$maintainer" \
+    printf 'nagsched (%s) unstable; urgency=medium\n\n  * CHANGELOG.md next to this file has what changed.\n\n -- %s  %s\n' "$version" "$maintainer" \
         "$(date -u -R -r "$top/CHANGELOG.md")" | gzip -9n > "$folder/usr/share/doc/$name/changelog.gz"
     find "$folder/usr/share/man" -name '*.[135]' -exec gzip -9n {} + 2> /dev/null || true
     cat > "$folder/DEBIAN/control" <<END

@@ -22,7 +22,7 @@ COLOURS = {
     "WARNING": ("#f6e3a1", "#d9a400"), "CRITICAL": ("#f2b8b0", "#c0392b"), "UNKNOWN": ("#f3cfa6", "#d9822b"),
     "DOWN": ("#f2b8b0", "#c0392b"), "UNREACHABLE": ("#d5c3e6", "#7d4fa3"),
 }
-MARKS = {"putoff": "put off", "reschedule": "rescheduled", "enable": "switched", "abandon": "given up"}
+MARKS = {"putoff": "put off", "reschedule": "rescheduled", "enable": "switched", "abandon": "abandoned"}
 LEFT, WIDTH, TOP, LETTER = 230, 860, 64, 6.4
 STEPS = [1, 2, 5, 10, 15, 30] + [60 * it for it in (1, 2, 5, 10, 15, 30)] + [3600 * it for it in (1, 2, 3, 6, 12)]
 CLOCK = 10**11

@@ -116,7 +116,7 @@ struct allowed *allowed_read(const char *path) {
     size_t wrong = read_patterns(text, allowed);
     if (wrong == 0)
         return allowed;
-    fprintf(stderr, "nagsched-runner: --only %s: line %zu is no pattern\n", path, wrong);
+    fprintf(stderr, "nagsched-runner: --only %s: line %zu isn't a command line: close its quotes, and leave out control characters\n", path, wrong);
     return NULL;
 }
 

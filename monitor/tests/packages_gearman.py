@@ -124,7 +124,7 @@ def rate(program: str) -> List[str]:
         finally:
             site.close()
     print(f"rate: {made / seconds:.1f} checks a second through one gearmand and {WORKERS} workers; median {late[len(late) // 2] * 1000:.0f} ms late, "
-          f"95th percentile {late[len(late) * 95 // 100] * 1000:.0f} ms; given up {figures.get('checks.given_up', 0):.0f}")
+          f"95th percentile {late[len(late) * 95 // 100] * 1000:.0f} ms; abandoned {figures.get('checks.given_up', 0):.0f}")
     for name, (processor, memory) in after.items():
         print(f"rate: {name}: {(processor - before[name]) * 1000 / max(made, 1):.2f} processor ms a check, {memory:.0f} MB")
     wrong = [] if made / seconds >= RATE * 0.97 else [f"rate: {made / seconds:.1f} checks a second, and {RATE} were due"]
@@ -185,12 +185,12 @@ def kills_of_a_site(program: str) -> List[str]:
         finally:
             site.close()
     twice = [run for run, count in ended.items() if count > 1]
-    named = len(re.findall(": its check is given up: ", log))
+    named = len(re.findall(": its check is abandoned: ", log))
     print(f"kills: a site made {made / seconds:.1f} checks a second meanwhile; {len(ended)} runs ended in its journal, {len(twice)} twice; "
-          f"{figures.get('checks.given_up', 0):.0f} were given up, in {named} lines by name")
+          f"{figures.get('checks.given_up', 0):.0f} were abandoned, in {named} lines by name")
     wrong = [f"kills: runs that ended twice: {twice[:3]}"] if twice else []
     wrong += [f"kills: {figures['checks.refused']:.0f} results came too late"] if figures.get("checks.refused") else []
-    wrong += ["kills: what was given up isn't named"] if figures.get("checks.given_up") and not named else []
+    wrong += ["kills: what was abandoned isn't named"] if figures.get("checks.given_up") and not named else []
     return wrong + ([] if made / seconds >= RATE * 0.95 else [f"kills: {made / seconds:.1f} checks a second, and {RATE} were due"])
 
 

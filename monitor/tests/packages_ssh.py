@@ -89,7 +89,7 @@ def main(program: str, cuts: str = "20") -> int:
             running.wait(timeout=60)
             server.close()
     twice = [run for run, count in runs.items() if count > 1]
-    named = len(re.findall(r"given up: run \d+ of far;", log_lines)) + len(re.findall(r"with it; another is started", log_lines))
+    named = len(re.findall(r"abandoned: run \d+ of far;", log_lines)) + len(re.findall(r"with it; another is started", log_lines))
     late = len(re.findall(r"came too late|is dropped", log_lines))
     print(f"ssh: {done} cuts; {dict(kinds)}; {len(twice)} runs ended twice; {late} results came too late or were dropped")
     print(f"ssh: {len(re.findall('the runner dmz ended', log_lines))} lines name the runner's ends")

@@ -116,4 +116,4 @@ class ASite(ProcessTest):
         self.await_words("h00;far", "OK here too")
         log = self.stop_monitor(running)
         self.assertIn("h00;far: run ", log)
-        self.assertIn(" is given up: no worker took it from the queue far", log)
+        self.assertIn(" is abandoned: no worker took it from the queue far", log)

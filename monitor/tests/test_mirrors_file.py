@@ -50,7 +50,7 @@ class MirrorsFile(SiteTest):
             ({"part-2": {"gatewy": "part-1"}}, "mirrors.json: part-2: gatewy: part-2.json has no such object"),
             ({"part-2": {"gateway": "part-7"}}, "mirrors.json: part-2: gateway: the part of its original isn't there: 'part-7'"),
             ({"part-2": {"gateway": 1}}, "isn't there: 1"),
-            ({"part-2": {"gateway": "part-2"}}, "its original stands in another part, and not in part-2"),
+            ({"part-2": {"gateway": "part-2"}}, "its original is in another part, not in part-2"),
             ({"part-2": {"far": "part-1"}}, "far: part-1.json has no such object"),
             ({"part-2": {"gateway": "part-1"}, "part-1": {"gateway": "part-2"}}, "has a mirror of it too"),
         ):

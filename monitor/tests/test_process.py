@@ -246,7 +246,7 @@ class Running(ProcessTest):
         self.write("monitor.json", {"on_change": "if"})
         self.assertIn("the command for changes: ", self.refusal())
         self.write("monitor.json", {"page": "nowhere"})
-        self.assertIn("no ADDRESS:PORT", self.refusal())
+        self.assertIn("--page has to be ADDRESS:PORT", self.refusal())
 
     def test_a_database_that_is_gone(self) -> None:
         """The monitor is stuck by name, answers that the request may come again, and goes on when the file is back."""

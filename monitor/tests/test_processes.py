@@ -154,7 +154,7 @@ class PageProcess(SiteTest):
         self.write_site([{"name": "h", "max_check_attempts": 2}], [])
         words = [sys.executable, str(MONITOR), "--program", PROGRAM, "--page", "here", str(self.folder)]
         ran = subprocess.run(words, capture_output=True, text=True, check=False)
-        self.assertEqual((ran.returncode, ran.stderr), (1, "nagsched-monitor: --page: no ADDRESS:PORT: 'here'\n"))
+        self.assertEqual((ran.returncode, ran.stderr), (1, "nagsched-monitor: --page has to be ADDRESS:PORT, such as 127.0.0.1:8080 or [::1]:8080, not 'here'\n"))
 
     def test_no_page(self) -> None:
         running = self.started()

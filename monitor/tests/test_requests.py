@@ -171,13 +171,13 @@ class Words(SiteTest):
     def test_bad_lines(self) -> None:
         before = self.monitored.store.last_call
         for line, word in (
-            (b"", "no JSON"), (b"\xff", "no JSON"), (b"[" * 100_000, "no JSON"), (b"[]", "object"), (b"{}", "None"), (b'{"do":7}', "7"),
+            (b"", "isn't JSON"), (b"\xff", "isn't JSON"), (b"[" * 100_000, "isn't JSON"), (b"[]", "object"), (b"{}", "None"), (b'{"do":7}', "7"),
             (b'{"do":"fly"}', "'fly'"), (b'{"do":"disable","name":"web","number":"\\ud800"}', "half a character"),
             (b'{"do":"signs","pattern":1}', "'pattern'"), (b'{"do":"status"}', "'status'"),
             (b'{"do":"reschedule"}', "name"), (b'{"do":"reschedule","name":"x"}', "no object 'x'"),
-            (b'{"do":"reschedule","name":"web","at":"now"}', "at is"), (b'{"do":"reschedule","name":"web","at":-1e30}', "no time"),
-            (b'{"do":"reschedule","name":"web","at":1e400}', "no time"), (b'{"do":"reschedule","name":"web","force":1}', "force"),
-            (b'{"do":"reschedule","name":"web","at":1795766400000}', "no time"),
+            (b'{"do":"reschedule","name":"web","at":"now"}', "at has to be a number"), (b'{"do":"reschedule","name":"web","at":-1e30}', "at has to be a time"),
+            (b'{"do":"reschedule","name":"web","at":1e400}', "at has to be a time"), (b'{"do":"reschedule","name":"web","force":1}', "force"),
+            (b'{"do":"reschedule","name":"web","at":1795766400000}', "at has to be a time"),
             (b'{"do":"reschedule","name":"web;trap","force":true}', "no command"),
             (b'{"do":"enable","name":"web;trap"}', "no command"), (b'{"do":"enable","name":["web"]}', "name"),
             (b'{"do":"result","name":"web","code":4}', "4"), (b'{"do":"result","name":"web","code":true}', "True"),

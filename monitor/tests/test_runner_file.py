@@ -134,7 +134,7 @@ class Handing(unittest.TestCase):
         self.assertEqual(self.runners.process_counts()["dmz"], {"running": 1, "wanted": 1, "stuck": 0, "waiting": 2})
         self.passed = 5
         self.assertEqual([(event.job.run, event.why) for event in self.events(2)], [(2, "the runner dmz didn't take it"), (3, "the runner dmz didn't take it")])
-        self.assertEqual(self.lines, ["dmz-1: its check is given up: the runner dmz didn't take it"])
+        self.assertEqual(self.lines, ["dmz-1: its check is abandoned: the runner dmz didn't take it"])
         self.assertEqual(self.runners.process_counts()["dmz"]["stuck"], 0)
         self.passed = 10 + 10 + 5
         self.assertEqual(self.runners.process_counts()["dmz"]["stuck"], 1)

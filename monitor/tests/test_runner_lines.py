@@ -173,8 +173,9 @@ class Only(unittest.TestCase):
         self.assertEqual(self.ends("# none\n", ["true"], [""]), [False, False])
 
     def test_files_that_cannot_be_used(self) -> None:
-        for text, why in ((None, "No such file or directory"), (b"true\n'a b\n", "line 2 is no pattern"), (b"true \\", "line 1 is no pattern"),
-                          (b"true \1", "line 1 is no pattern"),
+        bad = "isn't a command line: close its quotes, and leave out control characters"
+        for text, why in ((None, "No such file or directory"), (b"true\n'a b\n", f"line 2 {bad}"), (b"true \\", f"line 1 {bad}"),
+                          (b"true \1", f"line 1 {bad}"),
                           (b"a\0b", "Invalid argument"), (b"#" * 1_100_000, "Invalid argument")):
             with self.subTest(text=text and text[:20]):
                 self.file.unlink(missing_ok=True)

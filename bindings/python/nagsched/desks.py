@@ -37,7 +37,7 @@ class _HandleOwner:
 
     def free(self) -> None:
         """Frees what this refers to. A second call does nothing."""
-        self._call(LIBRARY.free, "it can't be given up now")
+        self._call(LIBRARY.free, "it can't be freed now")
 
     def _call(self, function: typing.Callable[..., int], what: str, *given: object) -> None:
         """One call with the handle, whose status has to be OK."""
@@ -151,7 +151,7 @@ class Setup(_ObjectNames):
             status = LIBRARY.resume(self._handle, written, len(written), u64(start), u64(room), handle, refusal)
         if status == Result.REFUSED:
             raise refusal_error(refusal)
-        check_status(status, "no book goes on")
+        check_status(status, "no book was resumed")
         return Book(handle)
 
 

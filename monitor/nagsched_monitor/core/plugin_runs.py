@@ -104,7 +104,7 @@ class PluginRuns:
         for run in self._scheduling.states.running.owned_by(Owner.NOBODY):
             if self._scheduling.is_open(run.key[0]):
                 plan.calls += abandon_calls(run, now)
-                plan.then.append(partial(self._log, f"given up: run {run.number} of {run.key[1]}"))
+                plan.then.append(partial(self._log, f"abandoned: run {run.number} of {run.key[1]}"))
         plan.then.append(partial(setattr, self, "_events", left))
 
     def _drop_event(self, event: Event) -> None:
@@ -116,7 +116,7 @@ class PluginRuns:
         elif not isinstance(event, StuckJobEnded):
             if left.get(name) is event.job:
                 del left[name]
-            self._log(f"{name}: the result of run {event.job.run} is dropped: it was given up, or the object isn't part of the site any more")
+            self._log(f"{name}: the result of run {event.job.run} is dropped: it was abandoned, or the object isn't part of the site any more")
 
     def _ending_calls(self, run: Run, event: Union[JobFinished, JobLost], now: int) -> List[PlannedCall]:
         """The calls that end a run. A lost check is made again; a service's check whose runner ended is UNKNOWN the third time."""
@@ -151,7 +151,7 @@ class PluginRuns:
             self._losses.pop(name, None)
         if isinstance(event, JobFinished) and event.is_stuck:
             self._stuck[name] = event.job
-            self._log(f"{name}: its plugin can't be killed; no other is started beside it")
+            self._log(f"{name}: its plugin can't be killed; no other is started meanwhile")
 
 
 def abandon_calls(run: Run, now: int) -> List[PlannedCall]:

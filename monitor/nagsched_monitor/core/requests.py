@@ -140,12 +140,12 @@ class Requests:
         try:
             members = json.loads(line)
         except (ValueError, RecursionError) as error:
-            raise RequestFault(f"no JSON: {error}") from None
+            raise RequestFault(f"the request isn't JSON: {error}") from None
         if not isinstance(members, dict):
-            raise RequestFault("a request is an object")
+            raise RequestFault("a request has to be a JSON object")
         word = members.get("do")
         if not isinstance(word, str) or word not in self._planners:
-            raise RequestFault(f"no request: {word!r}")
+            raise RequestFault(f"\"do\" has to be one of {', '.join(self._planners)}, not {word!r}")
         for member in members:
             if member not in ("do", "number", *self._planners[word][1]):
                 raise RequestFault(f"a member {member!r} isn't known here")
@@ -155,7 +155,7 @@ class Requests:
         """The object of a request. If its scheduler is called for the request, the scheduler has to be open."""
         name = members.get("name")
         if not isinstance(name, str):
-            raise RequestFault("name is the full name of an object")
+            raise RequestFault("name has to be the full name of an object")
         obj = self._scheduling.states.objects.get(name)
         if obj is None:
             raise RequestFault(f"there is no object {name!r}")
@@ -174,10 +174,10 @@ class Requests:
         now, wall = self._clock.moment(), self._clock.wall()
         at, forced = members.get("at", wall), members.get("force", False)
         if isinstance(at, bool) or not isinstance(at, (int, float)) or not isinstance(forced, bool):
-            raise RequestFault("at is a number of seconds since 1970, and force is true or false")
+            raise RequestFault("at has to be a number of seconds since 1970, and force true or false")
         time = now + round((at - wall) * 1000) if abs(at) < LAST_TIME else -1
         if time < FIRST_TIME:
-            raise RequestFault(f"no time at which a check can be: {at!r}")
+            raise RequestFault(f"at has to be a time from 1970 to 9998, in seconds since 1970, not {at!r}")
         if obj.definition.command is None:
             raise RequestFault(f"{obj.name} has no command")
         time = max(time, now)  # a time that is past means now
@@ -201,9 +201,9 @@ class Requests:
         obj = self._find_object(members, is_called=False)
         code, output = members.get("code"), members.get("output", "")
         if isinstance(code, bool) or not isinstance(code, int) or not 0 <= code <= 3:
-            raise RequestFault(f"no code from 0 to 3: {code!r}")
+            raise RequestFault(f"code has to be a number from 0 to 3, not {code!r}")
         if not isinstance(output, str):
-            raise RequestFault("output is a text")
+            raise RequestFault("output has to be a text")
         if self._passive.count + self._results >= MOST_WAITING:
             raise AskAgain(f"{MOST_WAITING} results wait to be reported")
         self._results += 1

@@ -88,7 +88,7 @@ def requests_of(line: bytes, services: Services) -> Tuple[str, List[Request]]:
         raise RequestFault(f"a line is longer than {LONGEST_LINE} bytes: {text[:SHOWN]!r}..")
     found = LINE.fullmatch(text.rstrip("\r"))
     if found is None:
-        raise RequestFault(f"no command: {text[:SHOWN]!r}")
+        raise RequestFault(f"a line has to be [TIME] COMMAND;ARGUMENT.., not {text[:SHOWN]!r}")
     command, rest = found.group(1), found.group(2) or ""
     if command not in COMMANDS:
         raise RequestFault(f"{command} isn't obeyed here")
@@ -106,12 +106,12 @@ def command_requests(rest: str, services: Services, do: str, of: int, forced: bo
     if do == "result" and len(words) == total - 1:
         words.append("")  # the output may be left out
     if len(words) < total:
-        raise ValueError(f"it has {total} words after it, and no {len(words)}")
+        raise ValueError(f"it needs {total} arguments, and has {len(words) if rest else 0}")
     name = ";".join(words[:count])
     if do == "result":
         code = read_number(words[count])
         if of == HOST and code > 2:
-            raise ValueError(f"no state of a host: {words[count]}")
+            raise ValueError(f"the code of a host has to be 0, 1 or 2, not {words[count]}")
         # A host's code is a state here, which the scheduler turns into DOWN or UNREACHABLE. The pipe has two letters for each line feed of the output.
         return [{"do": do, "name": name, "code": 2 if of == HOST and code else code, "output": words[count + 1].replace("\\n", "\n")}]
     if do != "reschedule":
@@ -124,5 +124,5 @@ def command_requests(rest: str, services: Services, do: str, of: int, forced: bo
 
 def read_number(word: str) -> int:
     if not re.fullmatch("[0-9]{1,15}", word.strip()):
-        raise ValueError(f"no number: {word[:SHOWN]!r}")
+        raise ValueError(f"it needs a number, not {word[:SHOWN]!r}")
     return int(word)

@@ -68,16 +68,16 @@ def read_event(job: Job, members: Dict[str, Any]) -> Union[JobFinished, JobLost]
         return JobLost(job, plain_text(read_text(members, "lost")), job.runner is None)
     end, code, is_stuck = members.get("end"), members.get("code"), members.get("stuck", False)
     if end not in ENDS:
-        raise ValueError(f"end is none of {', '.join(ENDS)}")
+        raise ValueError(f"end has to be one of {', '.join(ENDS)}")
     if isinstance(code, bool) or not isinstance(code, int) or not 0 <= code <= 255:
-        raise ValueError("code is no number from 0 to 255")
+        raise ValueError("code has to be a number from 0 to 255")
     return JobFinished(job, str(end), code, read_text(members, "output"), read_text(members, "stderr"), is_stuck is True)
 
 
 def read_text(members: Dict[str, Any], name: str) -> str:
     value = members.get(name, "")
     if not isinstance(value, str):
-        raise ValueError(f"{name} is no text")
+        raise ValueError(f"{name} has to be a text")
     return value.encode(errors="replace").decode()  # half a character, which a worker may have sent, can't be stored
 
 
@@ -85,7 +85,7 @@ def read_line(line: bytes) -> Tuple[int, Dict[str, Any]]:
     """The number of the job in a runner's line, -1 if it says an error, and its members. Raises `ValueError` or `RecursionError` if it can't be read."""
     members = json.loads(line.decode())
     if not isinstance(members, dict):
-        raise ValueError("it is no object")
+        raise ValueError("it has to be an object")
     number = -1 if "error" in members else members.get("job")
     if isinstance(number, bool) or not isinstance(number, int):
         raise ValueError("it has no number of a job")

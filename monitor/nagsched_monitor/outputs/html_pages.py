@@ -151,7 +151,7 @@ def figures_of(status: SiteStatus) -> str:
     rate, late, latest = (status.figures.get(name, 0.0) for name in ("checks_a_second", "latest_start_lately", "latest_start"))
     keeps_up = [
         ("checks a second", f"{rate:.2f}"),
-        ("latest start behind its time", f"{late:.2f} s <i>lately, {latest:.2f} s at most</i>"),
+        ("latest start after its time", f"{late:.2f} s <i>lately, {latest:.2f} s at most</i>"),
         ("out", str(len(status.running_checks()))),
         ("due", str(status.due_count())),
     ]

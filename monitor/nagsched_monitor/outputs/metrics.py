@@ -92,7 +92,7 @@ def metrics(status: SiteStatus, groups: Mapping[str, Groups], signs: Signs, site
     soft: List[Sample] = [("", labels, 1) for it, labels in labelled if it.is_problem() and it.kind == "SOFT"]
     flapping: List[Sample] = [("", labels, 1) for it, labels in labelled if it.flapping]
     families: List[Family] = [
-        ("nagsched_checks_total", "counter", "Results that were reported, by the state of the object or why there is none.", results),
+        ("nagsched_checks_total", "counter", "Results that were reported, by the state of the object or why it has no state.", results),
         ("nagsched_check_latency_seconds", "histogram", "How late checks began.", latency(figures)),
         ("nagsched_due", "gauge", "Objects whose time has come and whose check hasn't begun.", status.due_count()),
         ("nagsched_out", "gauge", "Objects whose plugins run.", len(status.running_checks())),

@@ -104,7 +104,7 @@ class RunnerPool:
 
     def _add_event(self, event: Union[JobFinished, JobLost]) -> None:
         if isinstance(event, JobLost) and not event.is_local:
-            self._lost.add(event.job.name, f"its check is given up: {event.why}")
+            self._lost.add(event.job.name, f"its check is abandoned: {event.why}")
         self._events.append(event)
 
     # ---- results

@@ -127,7 +127,7 @@ class Scheduling:
             self._query_unknown()
             self._has_unknown = False
         except (ConversationEnded, NotStored) as error:
-            self._log(f"how new objects stand isn't known yet: {error}")
+            self._log(f"the states of new objects aren't known yet: {error}")
 
     def _change_site(self, site: Site) -> List[str]:
         """Takes over a site. Parts with another setup begin from the combined states of all parts."""

@@ -77,7 +77,7 @@ def read_by_name(folder: pathlib.Path, file: str, known: Sequence[str], objects:
 
 def read_seconds(value: object, place: str, most: int = MOST_SECONDS) -> float:
     if isinstance(value, bool) or not isinstance(value, (int, float)) or not 0 < value <= most:
-        raise SiteFault(f"{place}: no number of seconds up to {most}: {value!r}")
+        raise SiteFault(f"{place}: it has to be a number of seconds up to {most}, not {value!r}")
     return value
 
 

@@ -55,7 +55,7 @@ def test_mirror(name: str, part: Part, home: Any, parts: Mapping[str, Part], doc
     place = f"{FILE}: {part.stem}: {name}"
     require(name in part.objects, f"{place}: {part.stem}.json has no such object")
     require(isinstance(home, str) and home in parts, f"{place}: the part of its original isn't there: {home!r}")
-    require(home != part.stem, f"{place}: its original stands in another part, and not in {home}")
+    require(home != part.stem, f"{place}: its original is in another part, not in {home}")
     require(name in parts[home].objects, f"{place}: {home}.json has no such object")
     require(name not in document.get(home, {}), f"{place}: {home} has a mirror of it too, and not the original")
     here, there = part.objects[name], parts[home].objects[name]

@@ -13,12 +13,12 @@ def parse_address(given: str, of: str = "--page") -> Tuple[str, int]:
     address, colon, port = given.rpartition(":")
     is_bracketed = address.startswith("[") and address.endswith("]")
     if not colon or not port.isascii() or not port.isdigit() or len(port) > 5 or int(port) > LAST_PORT or ":" in address and not is_bracketed:
-        raise MonitorFault(f"{of}: no ADDRESS:PORT: {given!r}")
+        raise MonitorFault(f"{of} has to be ADDRESS:PORT, such as 127.0.0.1:8080 or [::1]:8080, not {given!r}")
     bare = address[1:-1] if is_bracketed else address
     try:
         return "127.0.0.1" if bare == "localhost" else str(ipaddress.ip_address(bare)), int(port)
     except ValueError:
-        raise MonitorFault(f"{of}: no address: {address!r}") from None
+        raise MonitorFault(f"{of} needs an IP address or localhost, not {address!r}") from None
 
 
 def is_loopback(given: str) -> bool:
