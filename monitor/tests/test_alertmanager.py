@@ -162,6 +162,17 @@ class Posting(SiteTest):
         fill_database(self.folder, [standing("web"), standing("web;http", "OK")])
         self.assertEqual([self.look(), self.look(), self.lines], [[(PROBLEM, "web", "http", False)], [], []])
 
+    def test_one_that_was_restarted(self) -> None:
+        """It has forgotten all alerts, and gets the end of one that ended meanwhile, so that it tells of it."""
+        fill_database(self.folder, [standing("web", "DOWN"), standing("db", "DOWN")])
+        self.look()
+        self.is_refusing = True
+        fill_database(self.folder, [standing("web"), standing("db", "DOWN")])
+        self.look()
+        self.is_refusing = False
+        self.firing.clear()
+        self.assertEqual([self.look(), self.look()], [[(PROBLEM, "db", "", True), (PROBLEM, "web", "", False)], []])
+
     def test_one_that_takes_nothing(self) -> None:
         """It is posted again with each look, and logged once; an end that wasn't accepted is posted again."""
         fill_database(self.folder, [standing("web", "DOWN")])

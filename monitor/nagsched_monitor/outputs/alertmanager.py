@@ -117,22 +117,24 @@ class AlertPoster:
         if heartbeat is not None:
             self._post([{**heartbeat, "endsAt": timestamp(status.now + HEARTBEAT_ENDS)}])
         # An alert that ends has no beginning here: Alertmanager keeps its own, and one later than its end would be refused.
-        ended = [{"labels": labels, "endsAt": timestamp(status.now)} for labels in self._firing() if frozenset(labels.items()) not in alerts]
+        # Those that were posted last are ended too: an Alertmanager that was restarted has forgotten them, but not whom it told of them.
+        fired = dict.fromkeys([*self._firing(), *(self._posted or ())])
+        ended = [{"labels": dict(labels), "endsAt": timestamp(status.now)} for labels in fired if labels not in alerts]
         all_of = ended + [{**each, "annotations": {**each["annotations"], "monitor": self._monitor}, "endsAt": timestamp(status.now + ENDS)}
                           for each in alerts.values()]
         for first in range(0, len(all_of), AT_ONCE):
             self._post(all_of[first : first + AT_ONCE])
         self._posted, self._next_post = list(alerts), time.monotonic() + EVERY
 
-    def _firing(self) -> List[Dict[str, str]]:
-        """The labels of the alerts that Alertmanager has from this monitor, except the heartbeat, which ends by itself. If it can't be asked, those that were
-        posted last. Prometheus, and a site of this name on another machine, may have alerts with the same names."""
+    def _firing(self) -> List[Labels]:
+        """The alerts that Alertmanager has from this monitor, except the heartbeat, which ends by itself; none if it can't be asked. Prometheus, and a site of
+        this name on another machine, may have alerts with the same names."""
         query = urllib.parse.urlencode([("filter", f"site={json.dumps(self._site)}"), ("filter", f'alertname=~"{PROBLEM}|{FLAPPING}|{NOT_CHECKED}"')])
         try:
             with urllib.request.urlopen(f"{self._url}?{query}", timeout=PATIENCE) as answer:
-                return [each["labels"] for each in json.load(answer) if each["annotations"].get("monitor") == self._monitor]
+                return [frozenset(each["labels"].items()) for each in json.load(answer) if each["annotations"].get("monitor") == self._monitor]
         except urllib.error.HTTPError:
-            return [dict(labels) for labels in self._posted or ()]
+            return []
 
     def _post(self, alerts: Sequence[Alert]) -> None:
         """Posts alerts. A request that is refused is halved, so that a refused alert holds back itself alone."""
