@@ -100,6 +100,14 @@ class Ages(SiteTest):
         clock.now += 3_600_000
         self.assertEqual(self.overdue(self.monitor(fine, clock)), (0, 3))
 
+    def test_a_retry_that_takes_longer_than_a_check(self) -> None:
+        """While a problem is soft, the longer interval counts."""
+        self.write_site([host("web", retry_interval=600)], [])
+        monitor = self.monitor(lambda name, moment: (10, 2, "no answer"))
+        for _ in range(20):
+            monitor.run(60)
+            self.assertEqual(self.overdue(monitor), (0, 1))
+
     def test_a_first_check_that_is_far_off(self) -> None:
         """It is promised at its own time."""
         self.write_site([host(f"h{number:02}") for number in range(60)], [], {"host_inter_check_delay_method": 30_000})
