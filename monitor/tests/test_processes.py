@@ -12,7 +12,7 @@ from unittest import mock
 
 from nagsched_monitor.faults import MonitorFault
 from nagsched_monitor.system.addresses import is_loopback, parse_address, shown_url, test_url
-from nagsched_monitor.system.processes import LONGEST_PAUSE, HelperProcess
+from nagsched_monitor.system.processes import FOLDER, LONGEST_PAUSE, HelperProcess
 
 from .simulated import PROGRAM, SiteTest
 from .waiting import becomes_true
@@ -208,6 +208,24 @@ class Pauses(SiteTest):
         self.assertEqual(lines[:2], ["begun", "faults stands still; it is begun again"])
         self.assertIsNot(beside._process, first)
 
+    def test_one_that_has_nothing_to_say(self) -> None:
+        """Its signs of life come by themselves, and none of them is logged."""
+        lines: List[str] = []
+        now = [0.0]
+        beside = HelperProcess("faults", [], lines.append, lambda: now[0])
+        helper = "from nagsched_monitor.system.processes import ParentMonitor; it = ParentMonitor()\nwhile not it.is_ended(0.05): pass"
+        beside._command = [sys.executable, "-c", f"import sys; sys.path.insert(0, {str(FOLDER)!r}); {helper}"]
+        self.addCleanup(beside.close)
+
+        def is_heard() -> bool:
+            beside.work()
+            return beside._heard_at == now[0]
+
+        beside.work()
+        first = beside._process
+        for now[0] in (100.0, 200.0, 300.0):
+            self.assertTrue(becomes_true(is_heard))
+        self.assertEqual((beside._process, lines), (first, []))
 
     def test_no_room_for_a_process(self) -> None:
         """It is started a minute later."""

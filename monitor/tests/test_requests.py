@@ -6,6 +6,7 @@ from unittest import mock
 from nagsched_monitor.core import passive, requests
 from nagsched_monitor.core.requests import Request
 from nagsched_monitor.faults import NotStored
+from nagsched_monitor.store import store
 
 from .simulated import SimulatedMonitor, SiteTest, fine
 
@@ -136,6 +137,15 @@ class Words(SiteTest):
         self.assertEqual(self.monitored.store.waiting_results(), [])
         self.ask(**asked, number="a-2")
         self.assertEqual(len(self.monitored.store.waiting_results()), 1)
+
+    def test_old_answers_are_dropped(self) -> None:
+        """Those to the last numbers stay, in memory and in the database."""
+        with mock.patch.object(requests, "MOST_REQUESTS", 5), mock.patch.object(store, "MOST_REQUESTS", 5):
+            for number in range(20):
+                self.ask(do="result", name="web;trap", code=0, number=f"n{number}")
+        last = [f"n{number}" for number in range(15, 20)]
+        self.assertEqual(list(self.monitored.engine.requests._numbers), last)
+        self.assertEqual(list(self.monitored.store.requests()), last)
 
     def test_a_line_of_the_log_for_what_changes_something(self) -> None:
         self.monitored.lines.clear()
