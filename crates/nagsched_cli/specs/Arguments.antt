@@ -199,7 +199,7 @@ IsWithinLimits (job.Drill start workers room) = (start ≤ 2 ^ 60) × (1 ≤ wor
 
 -- the program's answer to `--version`
 abbrev pub version_line : Text
-version_line = codes "nagsched 1.0.0\n"
+version_line = codes "nagsched 1.0.0-dev\n"
 
 -- `clap` reads from the arguments that help is asked for
 abbrev pub AsksHelp : List Text → Type 0

@@ -36,7 +36,7 @@ pub enum Job {
 }
 
 /// The version of the program.
-pub const VERSION: &str = "1.0.0";
+pub const VERSION: &str = "1.0.0-dev";
 
 /// Why the program's arguments ask for no job.
 #[derive(Debug, Drop, Error)]
