@@ -10,6 +10,7 @@ use check_states::{Code, Standing, code};
 use std::process::Abort;
 use std::sync::Wait;
 use std::test::Fail;
+use std::thread::join;
 use ticket_steps::Kept;
 
 const STATUS: Call = Call::Status { object: 1 };
@@ -53,6 +54,49 @@ fn expect_waiting(rt: &impl Abort, desk: &Desk, turn: Turn) -> Turn
     }
 }
 
+/// A whole call of a thread that finds its turn at its first poll, with a reply.
+fn ask_at_once(rt: &impl Abort, desk: &Desk, pass: Pass, call: Call) -> Pass
+    requires { IsPassOf desk.now pass }
+    ensures { IsPassOf desk.now result }
+{
+    let turn = take_ticket(rt, desk, pass);
+    let hold = expect_hold(rt, desk, turn);
+    let (pass, answer) = desk.finish(hold, call);
+    assert!(rt; matches!(answer, Answer::Reply(_)));
+    pass
+}
+
+/// So many rounds in which one thread asks by both passes, each at once.
+fn ask_in_turn(
+    rt: &impl Abort,
+    desk: &Desk,
+    mut first: Pass,
+    mut second: Pass,
+    rounds: u32,
+) -> (Pass, Pass)
+    requires { IsPassOf desk.now first × IsPassOf desk.now second }
+    ensures { IsPassOf desk.now result.0 × IsPassOf desk.now result.1 }
+{
+    for _round in 0..rounds {
+        first = ask_at_once(rt, desk, first, STATUS);
+        second = ask_at_once(rt, desk, second, STATUS);
+    }
+    (first, second)
+}
+
+/// So many calls of one pass, each waiting for its turn.
+fn ask_often(rt: &(impl Wait + Abort), desk: &Desk, mut pass: Pass, calls: u32) -> Pass
+    requires { IsPassOf desk.now pass }
+    ensures { IsPassOf desk.now result }
+{
+    for _made in 0..calls {
+        let (back, answer) = desk.ask(rt, pass, STATUS);
+        assert!(rt; matches!(answer, Answer::Reply(_)));
+        pass = back;
+    }
+    pass
+}
+
 /// Whether this is the standing of an object that was never checked, has no next check, and didn't change.
 fn is_unchecked(answer: Answer) -> bool {
     matches!(
@@ -88,6 +132,30 @@ fn turns_come_in_the_order_of_their_tickets(rt: HostRuntime) -> Result<(), Fail>
         return Err(Fail::from("not two entries"));
     };
     assert_eq!(rt; (taken.pass, told.pass), (0, 1));
+    Ok(())
+}
+
+#[test]
+fn rounds_of_one_thread_and_then_two_threads(rt: HostRuntime) -> Result<(), Fail> {
+    let (desk, first, second) = two_passes(rt.alloc(), ONE_SERVICE)?;
+    let first = ask_at_once(&rt, &desk, first, Call::Take { now: 0 });
+    let second = ask_at_once(&rt, &desk, second, STATUS);
+    let (first, second) = ask_in_turn(&rt, &desk, first, second, 50);
+    let (first, second) = join(
+        &rt,
+        || -> Pass
+            requires { IsPassOf desk first }
+            ensures { IsPassOf desk result }
+        { ask_often(&rt, &desk, first, 100) },
+        || -> Pass
+            requires { IsPassOf desk second }
+            ensures { IsPassOf desk result }
+        { ask_often(&rt, &desk, second, 100) },
+    );
+    let pass = desk.gather(first, second);
+    assert_eq!(rt; pass.calls(), 302);
+    let book = close_desk(&rt, desk, pass);
+    assert_eq!(rt; (book.entries().len(), book.refused()), (302, 0));
     Ok(())
 }
 
