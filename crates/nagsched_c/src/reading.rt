@@ -11,8 +11,8 @@ use nagsched_handles::{CRefusal, Handle, c_refusal};
 use setup_model::LoadError;
 use std::alloc::Global;
 
-/// Reads a setup from a JSON document into an empty handle. The document is read twice, since the
-/// passes of a desk need the names of its objects outside its lock.
+/// Reads a setup from a JSON document into an empty handle. It makes two setups, since the passes of a
+/// desk need the names of its objects outside its lock.
 ///
 /// `REFUSED` if the document isn't a setup: the struct has the reason and the place. `WRONG` exactly if
 /// the handle isn't empty. If memory is refused, the status says so, and says nothing about the
