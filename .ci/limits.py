@@ -66,6 +66,19 @@ def many_objects(harness):
     harness.compare("4,000 services on 90 hosts", (input_lines(*wanted), 0), harness.run([], input_lines(setup(**members), *takes)))
 
 
+def all_fail(harness):
+    """4,096 objects that all fail: hosts first, so that each problem of a service is hard at once. All are due again after the check interval."""
+    hosts = [host(f"host{n:02}") for n in range(96)]
+    services = [service(f"host{n % 96:02}", f"service{n:04}", max_check_attempts=3) for n in range(4_000)]
+    names = [h["name"] for h in hosts] + [f"{s['host']};{s['description']}" for s in sorted(services, key=lambda s: (s["host"], s["description"]))]
+    takes = [[f'["take",{now}]'] * len(names) + [f'["take",{now}]'] for now in (0, 300_000)]
+    wanted = [[f"taken {run} {name}" for run, name in enumerate(names, first)] for first in (1, 4_097)]
+    standings = [f"standing {'CRITICAL HARD 3' if ';' in name else 'DOWN HARD 1'} yes STEADY 300000 {name}" for name in names]
+    reports = [f'["report","{name}",{run},2]' for run, name in enumerate(names, 1)]
+    harness.compare("4,096 objects that fail", (input_lines(*wanted[0], "idle none", *standings, *wanted[1], "idle none"), 0),
+                    harness.run([], input_lines(setup(hosts=hosts, services=services), *takes[0], *reports, *takes[1])))
+
+
 def many_calls(harness):
     """A run of more than 100,000 calls."""
     count = 120_000
@@ -328,7 +341,7 @@ def saved_states(harness):
 
 
 harness = Harness("limits")
-LISTS = (many_objects, long_names, many_parents, too_many, explained_at_limits, most_dependencies, long_chain, many_ways, wide_layers, long_cycles, last_of_many)
+LISTS = (many_objects, all_fail, long_names, many_parents, too_many, explained_at_limits, most_dependencies, long_chain, many_ways, wide_layers, long_cycles, last_of_many)
 for part in (*LISTS, little_stack, many_calls, places, long_inputs, saved_states):
     part(harness)
 harness.end()
