@@ -7,13 +7,13 @@ from typing import Any, Iterator, NamedTuple, Optional
 
 import histories
 import model
+import rows
 from histories import START, History, Told
 from model import HARD, SOFT, Object, Standing
+from rows import UNEXPLAINED, Moment
 
 FAR = 2**59  # a next time that never comes: no call takes a next time away
 KINDS = (SOFT, HARD)
-UNEXPLAINED = "no row"
-Moment = Optional[int]
 
 
 class Failure(Exception):
@@ -408,18 +408,16 @@ class Comparison:
         flag = self.rules.flag(o)
         ours = self.report(o, code, begun, self.rules.verdict(before_here, state, o.most, host_down), changed, flag)
         by_table = self.rules.verdict(before, state, o.most, host_down)
-        row = self.standing_row(o, before, by_table, host_down)
+        row = rows.standing_row(o, before, by_table, host_down)
         # The standing by our table after Nagios's standing: it differs from ours if the two were different before.
         other = [("after a problem while the host was down", by_table)] if before_here != before else []
-        flags = o.flaps.flags
-        flag_steps = [(name, later) for name, earlier, later in zip(model.Flaps.ROWS, flags, flags[1:]) if earlier != later]
         equal = [self.compare("standing", o.here, there, *other, (row, o.there)),
                  self.compare("changed", changed, names[int(words[9])] != there.state),
-                 self.compare("flapping", flag, words[10] == "1", *flag_steps)]
+                 self.compare("flapping", flag, words[10] == "1", *rows.flag_steps(o))]
         self.logged(o, words[14], names, result, by_table, other, row)
         due = self.nagios_next(o, result, now)
         self.expect("the waiting check", due, (seconds(words[12]), words[13] == "1"))
-        steps = list(self.next_steps(o, result, begun, now, by_table, row))
+        steps = list(rows.next_steps(self.rules, o, result, begun, now, by_table, row))
         if waiting is not None:
             steps = [("checks on demand" if waiting.on_demand else "reschedule", due[0])]
         equal.append(self.compare("next check", ours, due[0], *steps))
@@ -445,16 +443,6 @@ class Comparison:
         self.call(f"last hard {after.last_hard} {o.number}", '["save"]')
         return o.next
 
-    def standing_row(self, o: Object, before: Standing, by_table: Standing, host_down: bool) -> str:
-        """The row by which Nagios leaves the table of verdicts at this result."""
-        is_good = before.state in model.GOOD
-        if not is_good and not (before.attempt == o.most and before.last_hard == before.state if before.kind == HARD
-                                else before.attempt < o.most and before.last_hard in model.GOOD and not o.had_host_problem):
-            return "after a problem while the host was down"
-        if o.there.state in model.GOOD:
-            return "soft recovery" if before.is_soft_problem() and by_table[1:3] == (SOFT, before.attempt + 1) else UNEXPLAINED
-        return "problem while the host is down" if is_good and host_down and by_table[1:3] == (HARD, o.most) else UNEXPLAINED
-
     def logged(self, o: Object, told: str, names: tuple[str, ...], result: model.Result, by_table: Standing,
                other: list[tuple[str, Standing]], row: str) -> None:
         """The log, which doesn't always show the standing that Nagios stores."""
@@ -475,28 +463,6 @@ class Comparison:
             o.next_check = time
             self.nagios.schedule(o, now, time, False)
         return (o.event.time * 1000, o.event.forced) if o.event is not None else (None, False)
-
-    def next_steps(self, o: Object, result: model.Result, begun: int, now: int, by_table: Standing, row: str) -> Iterator[tuple[str, Moment]]:
-        """From our next time to Nagios's, row by row, in milliseconds."""
-        interval = self.rules.interval(o, by_table)
-        if interval != self.rules.interval(o, o.here):
-            yield "after a problem while the host was down", self.rules.after(o, begun * 1000, by_table)
-        if not o.enabled:
-            yield "result of a disabled object", None
-            return
-        if not o.scheduled:
-            return
-        base = begun
-        if result.interval != interval:
-            name = "retry after a soft recovery" if result.is_soft_recovery else row
-            yield name, (begun + result.interval) * 1000
-        if not result.interval:
-            yield "no retry interval", begun * 1000
-        if result.base != begun:
-            base = result.base
-            yield "from the handling", (base + result.interval) * 1000
-        if base + result.interval < now:
-            yield "past times", now * 1000
 
 
 # ---- small parts

@@ -9,9 +9,10 @@ import subprocess
 import tempfile
 from typing import Any, Sequence
 
+from model import Setup as Setup, names as names
+
 START = 1_000_000_000  # when each history begins, in seconds
 TIMEOUT = 3600  # seconds for the harness to play the histories that it gets
-Setup = dict[str, Any]  # a setup document as nagsched reads it
 Plan = list[tuple[int, int]]  # for each check, its seconds and its return code
 
 # The frequency of each of the codes 0 to 3, while a plugin is in one mood.
@@ -57,13 +58,6 @@ class History:
         """Its size, for finding small examples."""
         return (len(names(self.setup)) * 100 + len(self.commands) * 30 + sum(len(plan) for plan in self.plans.values())
                 + len(self.setup.get("options", ())) + (self.end - START) // 60)
-
-
-def names(setup: Setup) -> list[str]:
-    """Full names in the order of the objects' numbers."""
-    hosts = sorted((host["name"] for host in setup["hosts"]), key=str.encode)
-    services = sorted(((s["host"], s["description"]) for s in setup.get("services", ())), key=lambda s: (s[0].encode(), s[1].encode()))
-    return hosts + [";".join(service) for service in services]
 
 
 def text(setup: Setup) -> str:

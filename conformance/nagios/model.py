@@ -9,9 +9,9 @@ import dataclasses
 import functools
 import math
 from fractions import Fraction
-from typing import Any, Iterable, NamedTuple, Optional
+from typing import Any, Iterable, NamedTuple, Optional, Protocol
 
-import histories
+Setup = dict[str, Any]  # a setup document as nagsched reads it
 
 SOFT, HARD = "SOFT", "HARD"
 GOOD = ("OK", "UP")
@@ -24,6 +24,16 @@ DEFAULTS: dict[str, Any] = {
     "host_inter_check_delay_method": "s", "max_host_check_spread": 30, "max_concurrent_checks": 0, "soft_state_dependencies": False,
     "use_aggressive_host_checking": False, "low_service_flap_threshold": 20, "high_service_flap_threshold": 30,
     "low_host_flap_threshold": 20, "high_host_flap_threshold": 30}
+
+
+class Keeping(Protocol):
+    """What Nagios keeps of earlier results: whether checks on demand stay in its queue, and for how many seconds a host's result counts."""
+
+    @property
+    def keeps(self) -> bool: ...
+
+    @property
+    def horizon(self) -> int: ...
 
 
 class Standing(NamedTuple):
@@ -180,11 +190,18 @@ def criteria(letters: str, is_host: bool) -> Optional[frozenset[str]]:
     return frozenset(words) - {"p"}
 
 
-def objects_of(setup: histories.Setup, options: dict[str, Any]) -> list[Object]:
+def names(setup: Setup) -> list[str]:
+    """Full names in the order of the objects' numbers."""
+    hosts = sorted((host["name"] for host in setup["hosts"]), key=str.encode)
+    services = sorted(((s["host"], s["description"]) for s in setup.get("services", ())), key=lambda s: (s[0].encode(), s[1].encode()))
+    return hosts + [";".join(service) for service in services]
+
+
+def objects_of(setup: Setup, options: dict[str, Any]) -> list[Object]:
     members = {host["name"]: host for host in setup["hosts"]}
     members.update({f"{service['host']};{service['description']}": service for service in setup.get("services", ())})
     found: list[Object] = []
-    for number, name in enumerate(histories.names(setup)):
+    for number, name in enumerate(names(setup)):
         item, is_host = members[name], ";" not in name
         standing = Standing("UP" if is_host else "OK", HARD, 1, "UP" if is_host else "OK")
         sort = "host" if is_host else "service"
@@ -211,7 +228,7 @@ def objects_of(setup: histories.Setup, options: dict[str, Any]) -> list[Object]:
 class Rules:
     """The rules of docs/rules.md. teeth.py puts wrong ones in their place."""
 
-    def __init__(self, setup: histories.Setup) -> None:
+    def __init__(self, setup: Setup) -> None:
         self.options = {**DEFAULTS, **setup.get("options", {})}
         self.objects = objects_of(setup, self.options)
         self.limit: int = self.options["max_concurrent_checks"]
@@ -322,7 +339,7 @@ class Result(NamedTuple):
 class Nagios:
     """Nagios's queue and its handling of results, over the same objects."""
 
-    def __init__(self, rules: Rules, history: histories.History) -> None:
+    def __init__(self, rules: Rules, history: Keeping) -> None:
         self.rules, self.objects, self.options = rules, rules.objects, rules.options
         self.horizon, self.is_predictive = history.horizon, history.keeps
         self.running = 0  # checks of services
