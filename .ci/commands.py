@@ -67,6 +67,7 @@ SCRIPTS = {
     "monitor/build_runner.sh": ".ci/monitor.py",
     "tools/from_nagios.py": ".ci/tools.py",
     "tools/timeline.py": ".ci/tools.py",
+    "tools/second_opinion.py": ".ci/second_opinion.py",
     "examples/monitor.py": ".ci/monitor.py",
     "examples/mail_change.py": ".ci/monitor.py",
     "examples/embed.py": ".ci/c_library.py",
@@ -74,8 +75,8 @@ SCRIPTS = {
     "examples/loop.py": ".ci/c_library.py",
 }
 # The names of scripts when they are installed.
-INSTALLED = {"nagsched-monitor": "monitor/nagsched-monitor", "nagsched-from-nagios": "tools/from_nagios.py"}
-WITH_HELP = {"monitor/nagsched-monitor", "monitor/nagsched-gearman-worker", "tools/from_nagios.py", "tools/timeline.py"}
+INSTALLED = {"nagsched-monitor": "monitor/nagsched-monitor", "nagsched-from-nagios": "tools/from_nagios.py", "nagsched-second-opinion": "tools/second_opinion.py"}
+WITH_HELP = {"monitor/nagsched-monitor", "monitor/nagsched-gearman-worker", "tools/from_nagios.py", "tools/timeline.py", "tools/second_opinion.py"}
 # The commands of the trial, which monitor/tests/packages.sh runs on a machine with Nagios, one after another.
 TRIAL = frozenset(all_lines())
 # Why the gate doesn't run a command.

@@ -61,6 +61,8 @@ def check_installed(program, prefix, work):
     own = {file.name for file in (TOP / "tools").glob("*nagios*.py")}
     yield "the converter's modules that are missing", own - {file.name for file in (prefix / "lib/nagsched").iterdir()}, set()
     yield "from Nagios", command_output(prefix / "bin/nagsched-from-nagios", "--help")[1], 0
+    told, status = command_output(prefix / "bin/nagsched-second-opinion", "--lines", "/var/log/nagios4/results")
+    yield "the second opinion", (status, "host_perfdata_file=/var/log/nagios4/results\n" in told), (0, True)
     yield "the manual pages", [name for name in sorted(manual) if not name.endswith(".3")], ["nagsched-from-nagios.1", "nagsched-monitor.1", "nagsched.1", "nagsched.5"]
     functions = re.findall(r"\b(nagsched_\w+)\(", re.sub(r"/\*.*?\*/", "", (TOP / "include/nagsched.h").read_text(), flags=re.DOTALL))
     wanted = sorted(f"{name}.3" for name in {"nagsched", *functions}) if (prefix / "include/nagsched.h").is_file() else []

@@ -41,7 +41,16 @@ for module in "$top"/tools/nagios_*.py; do
 done
 place 755 "$top/tools/from_nagios.py" lib/nagsched/from_nagios.py
 place 644 "$top/VERSION" lib/nagsched/VERSION
+place 755 "$top/tools/second_opinion.py" lib/nagsched/second_opinion.py
+for module in "$top"/tools/second_opinion_*.py; do
+    place 644 "$module" "lib/nagsched/$(basename "$module")"
+done
+# The judge's rules, which the second opinion shares.
+for module in model rows; do
+    place 644 "$top/conformance/nagios/$module.py" "lib/nagsched/judge/$module.py"
+done
 ln -sf ../lib/nagsched/from_nagios.py "$root/bin/nagsched-from-nagios"
+ln -sf ../lib/nagsched/second_opinion.py "$root/bin/nagsched-second-opinion"
 unit=$(mktemp)
 manual=$(mktemp -d)
 pages=$(mktemp -d)

@@ -16,6 +16,7 @@ NAMES = (
     (r"crates/nagsched/out/nagsched\b", "nagsched"),
     (r"(?<![\w/])monitor/nagsched-(monitor|gearman-worker)\b(?!@)", r"nagsched-\1"),
     (r"(?<![\w/])tools/from_nagios\.py", "nagsched-from-nagios"),
+    (r"(?<![\w/])tools/second_opinion\.py", "nagsched-second-opinion"),
     (r"\[docs/(\w+\.md)\]", r"[\1]"),
     (r"\]\((?:docs|\.\.)/", "]("),
 )

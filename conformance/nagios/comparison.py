@@ -288,7 +288,7 @@ class Comparison:
                     return True
             return False
 
-        links = reach(o)
+        links = rows.reach(o)
         if not all(link.master.checked for link in links):
             yield "master never checked", forbids(o, False)
         if any(link.there != link.here - {"p"} for link in links):
@@ -452,9 +452,8 @@ class Comparison:
             return
         state, kind, attempt = map(int, told.split(","))
         self.expect("the log", logged[:3], (names[state], KINDS[kind], attempt))
-        if row == UNEXPLAINED and by_table[1:3] == (HARD, 1) and logged[1:3] == (HARD, o.most) and not o.is_host:
-            row = "hard recovery in the log"
-        self.compare("log", o.here[:3], logged[:3], *[(name, standing[:3]) for name, standing in other], (row, logged[:3]))
+        self.compare("log", o.here[:3], logged[:3], *[(name, standing[:3]) for name, standing in other],
+                     (rows.log_row(o, row, by_table, logged), logged[:3]))
 
     def nagios_next(self, o: Object, result: model.Result, now: int) -> tuple[Moment, bool]:
         """The check that waits in Nagios's queue after the result, and whether it is forced."""
@@ -466,11 +465,6 @@ class Comparison:
 
 
 # ---- small parts
-
-
-def reach(o: Object) -> list[model.Link]:
-    """The dependencies of an object, of its masters, and so on."""
-    return [link for direct in o.links for link in (direct, *reach(direct.master))]
 
 
 def visible(time: Moment) -> Moment:

@@ -26,6 +26,13 @@ DEFAULTS: dict[str, Any] = {
     "low_host_flap_threshold": 20, "high_host_flap_threshold": 30}
 
 
+class KeepsNothing(NamedTuple):
+    """A Nagios without checks on demand, for a history as Nagios itself wrote it."""
+
+    keeps: bool = False
+    horizon: int = 0
+
+
 class Keeping(Protocol):
     """What Nagios keeps of earlier results: whether checks on demand stay in its queue, and for how many seconds a host's result counts."""
 
@@ -44,6 +51,9 @@ class Standing(NamedTuple):
 
     def is_soft_problem(self) -> bool:
         return self.kind == SOFT and self.state not in GOOD
+
+    def __str__(self) -> str:
+        return f"{self.state} {self.kind} {self.attempt}"
 
 
 class Event(NamedTuple):
@@ -106,6 +116,10 @@ class Object:
     @property
     def good(self) -> str:
         return "UP" if self.is_host else "OK"
+
+    @property
+    def states(self) -> tuple[str, ...]:
+        return HOST_STATES if self.is_host else SERVICE_STATES
 
 
 # ---- flapping
