@@ -4,7 +4,7 @@ use Rattle.check_book.specs.BookState.{BookState}
 
 -- the state in which it began
 abbrev pub log_opening : Log → BookState
-log_opening log = record { sched = log.opened.value; room = log.room }
+log_opening log = record { sched = log.opened.at; room = log.room }
 
 -- its present state
 abbrev pub log_state : Log → BookState

@@ -14,11 +14,11 @@ ghost use Rattle.check_book.specs.Board.{book_board, book_slot};
 ghost use Rattle.std.proofs.Props.{props};
 ghost use Rattle.ticket_steps.specs.History.{entry, replay, IsLegal, IsLegal-prop};
 
+use crate::opening::Opening;
 use check_objects::Setup;
 use check_sched::{Call, LAST_MOMENT, Reply, Saved, Sched};
 use std::alloc::{AllocError, Global};
 use std::mem;
-use std::snapshot::Snapshot;
 use ticket_steps::{Entry, Kept, NoMemory};
 
 /// A scheduler that stores the history of its calls. Each call is stored with its reply, under the number
@@ -31,7 +31,7 @@ pub struct Book {
     /// In a box, so that moving a book moves a pointer.
     log: Box<Log>,
     ghost reserved: { log.value.room ≤ vec_capacity log.value.entries },
-    ghost opened: { IsState log.value.opened.value } by { IsState-prop log.value.opened.value },
+    ghost opened: { IsState log.value.opened.at } by { IsState-prop log.value.opened.at },
     ghost valid_setup: { IsSetup log.value.sched.setup } by { IsSetup-prop log.value.sched.setup },
     ghost legal: { IsLegal book_step (log_opening log.value) log.value.entries.items } by { IsLegal-prop book_step (λ a b. Prim.hlevel props)
         (log_opening log.value) log.value.entries.items },
@@ -55,7 +55,7 @@ struct Log {
     refused: u64,
     room: usize,
     /// The scheduler as it was when the book was opened. It takes no bytes.
-    opened: Snapshot<Sched>,
+    opened: Opening<Sched>,
 }
 
 impl Log {
@@ -71,12 +71,12 @@ impl Log {
         ensures refused { self.new.refused ≡ 0 }
         ensures room { self.new.room ≡ room }
         ensures sched { self.new.sched ≡ self.old.sched }
-        ensures opened { self.new.opened.value ≡ self.old.sched }
+        ensures opened { self.new.opened.at ≡ self.old.sched }
     {
         let earlier = mem::replace(&mut self.entries, entries);
         self.refused = 0;
         self.room = room;
-        self.opened = Snapshot::of(&self.sched);
+        self.opened = Opening::of(&self.sched);
         earlier
     }
 }
@@ -148,7 +148,7 @@ impl Book {
         ensures opening { IfOk result (λ book. opening_of book ≡ book_at sched room) }
         ensures err { IfErr result (λ handed_back. handed_back ≡ sched.setup) }
     {
-        let opened = Snapshot::of(&sched);
+        let opened = Opening::of(&sched);
         let log = Log {
             sched,
             entries,

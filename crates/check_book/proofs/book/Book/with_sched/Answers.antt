@@ -14,7 +14,7 @@ invariant_of-result c =
     let snapped = c.of-opened.ensures in
     record {
       reserved = subst (λ (l : Log). l.room ≤ vec_capacity l.entries) boxed c.requires.reserved;
-      opened = subst (λ (l : Log). IsState l.opened.value) boxed (subst IsState (sym snapped) c.requires.state);
+      opened = subst (λ (l : Log). IsState l.opened.at) boxed (subst IsState (sym snapped) c.requires.state);
       valid_setup = subst (λ (l : Log). IsSetup l.sched.setup) boxed c.requires.state.valid_setup;
       legal = subst (λ (l : Log). IsLegal book_step (log_opening l) l.entries.items) boxed (rw c.requires.none tt);
       replayed =

@@ -21,7 +21,7 @@ invariant_of-self-2 c =
     let made = c.apply-reply.ensures in
     record {
       reserved = omega (arith, c.push_reserved.ensures.capacity, c.grow.ensures.capacity, was_reserved);
-      opened = subst (λ (l : Log). IsState l.opened.value) (sym boxed) b.opened;
+      opened = subst (λ (l : Log). IsState l.opened.at) (sym boxed) b.opened;
       valid_setup = subst IsSetup (sym (made.setup ∙ ap (λ (l : Log). l.sched.setup) boxed)) b.valid_setup;
       legal =
           book_legal (log_opening log) log.sched c.apply-reply.new.self log.room c.args.pass c.args.call c.apply-reply.result log.entries.items
