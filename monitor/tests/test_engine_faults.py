@@ -219,6 +219,18 @@ class Faults(SiteTest):
         self.assertIsNotNone(monitor.store.generations()[0].saved)
         self.assertLess(len(monitor.store.calls_since(0, 0)), 12)
 
+    def test_a_state_that_cant_be_saved(self) -> None:
+        """It is tried again after ten seconds, and not with each turn."""
+        self.write_site([host("web", check_interval=1)], [])
+        monitor = self.monitor(fine)
+        monitor.run(295)
+        with mock.patch.object(monitor.engine, "save", side_effect=NotStored("the disk is full")) as tried:
+            monitor.run(30)
+        self.assertEqual(tried.call_count, 3)
+        self.assertIn("the state isn't saved: the disk is full", monitor.lines)
+        monitor.run(10)
+        self.assertIsNotNone(monitor.store.generations()[0].saved)
+
     def test_one_part_is_saved_at_a_time(self) -> None:
         """Each within five minutes. A call is dropped when both saved states contain it, and a restart misses none."""
         for part in (1, 2):
