@@ -68,6 +68,17 @@ class Words(SiteTest):
         monitor.run(20)
         self.assertEqual([start // 1000 for start in monitor.starts()["web"]], [60, 63])
 
+    def test_an_operators_time_in_the_turn_of_a_planned_one(self) -> None:
+        """The operator's counts, and not the one at which the check would have been in phase again."""
+        self.ask(do="reschedule", name="web")
+        for _ in range(100):
+            if not self.monitored.engine.checks.planned_checks:
+                self.monitored.run(0.001)
+        self.assertEqual(list(self.monitored.engine.checks.planned_checks), ["web"])
+        self.ask(do="reschedule", name="web", at=self.monitored.clock.wall() + 5)
+        self.monitored.run(10)
+        self.assertEqual([start // 1000 for start in self.monitored.starts()["web"]], [0, 30, 35])
+
     def test_switches(self) -> None:
         self.assertFalse(self.ask(do="disable", name="web")["on"])
         self.monitored.run(100)
