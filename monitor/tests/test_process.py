@@ -245,6 +245,8 @@ class Running(ProcessTest):
         self.assertEqual([json.loads(line)["name"] for line in again.read_text().splitlines()], ["h01"])
         self.write("monitor.json", {"on_change": "if"})
         self.assertIn("the command for changes: ", self.refusal())
+        self.write("monitor.json", {"on_change": "/nosuch x"})
+        self.assertIn("the command for changes: there is no program /nosuch: put it on the path, or name its whole path\n", self.refusal())
         self.write("monitor.json", {"page": "nowhere"})
         self.assertIn("--page has to be ADDRESS:PORT", self.refusal())
 

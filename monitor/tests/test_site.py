@@ -157,6 +157,18 @@ class SiteFiles(SiteTest):
         self.write("commands.json", {"web": {"line": "echo 'no; exit 2' \"a|b\" # c"}})
         self.assertEqual(read_site(self.folder, PROGRAM).objects["web"].command, Command(["echo", "no; exit 2", "a|b", "#", "c"], 60.0))
 
+    def test_the_command_for_changes(self) -> None:
+        """Its first program has to exist, and the shell has to be able to read the line. What only the shell knows isn't tested."""
+        (self.folder / "text").touch()
+        for line in ("cat >> x", "/bin/cat", "exec cat", "A=1 B= cat", "A=1", "cd /; ./x", "$X y", "~/x", "if true; then nosuch; fi", "(nosuch)", "! nosuch", "'my x' y", ""):
+            command_lines.test_change_command(line)
+        for line, name in (("/nosuch x", "/nosuch"), (" nosuch|cat", "nosuch"), ("A=1 nosuch>x", "nosuch"), (f"{self.folder}/text", f"{self.folder}/text")):
+            wanted = f"^the command for changes: there is no program {name}: put it on the path, or name its whole path$"
+            with self.assertRaisesRegex(SiteFault, wanted):
+                command_lines.test_change_command(line)
+        with self.assertRaisesRegex(SiteFault, "^the command for changes: .*yntax"):
+            command_lines.test_change_command("if")
+
     def test_shell_lines_are_tested_once(self) -> None:
         """A line that was found to be good isn't tested again, also if its file of checksums is damaged or can't be written: then all are."""
         self.write_site([{**HOST, "name": f"h{number}"} for number in range(6)], [])

@@ -15,7 +15,7 @@ from ..outputs.changes import Notifier, change_line
 from ..outputs.sd_notify import ServiceManager
 from ..run.runners import RunnerPools, raise_file_limit
 from ..scheduler.scheduling import Scheduling
-from ..site.command_lines import test_shell_line
+from ..site.command_lines import test_change_command
 from ..site.site import LISTS, TEXTS, Options, Site, read_site
 from ..store.store import Store, drop_changes_before
 from ..system import addresses
@@ -52,7 +52,7 @@ class Monitor:
         self.store = Store(self._folder, self.log)
         self.clock: Clock = SystemClock(self.store.last_moment())
         if self._outputs.on_change is not None:
-            test_shell_line(self._outputs.on_change, "the command for changes")
+            test_change_command(self._outputs.on_change)
         self.scheduling = self._open_scheduling(site)
         self.runners = RunnerPools(len(os.sched_getaffinity(0)), self.log, self._poller)
         self.runners.set_remotes(site.runners)

@@ -23,6 +23,8 @@ HALF = re.compile("[\ud800-\udfff]")
 TESTED = "shell-lines.tested"
 # The limit for a shell's test of a line, in seconds.
 LIMIT = 30.0
+# The program of a shell line, after variables that are set for it; no match if the line begins with something else.
+FIRST_WORD = re.compile(r"\s*(?:\w+=[\w./:+-]*\s+)*([\w./+][\w./+-]*)(?![^\s;&|<>])")
 
 
 def read_commands(folder: pathlib.Path, objects: Container[str], runner_of: Container[str]) -> Dict[str, Command]:
@@ -91,3 +93,14 @@ def test_shell_line(line: str, place: str) -> None:
     except (OSError, subprocess.TimeoutExpired) as error:
         raise SiteFault(f"{place}: its line can't be tested: {error}") from None
     require(read.returncode == 0, f"{place}: {read.stderr.decode(errors='replace').strip()}")
+
+
+def test_change_command(line: str) -> None:
+    """Raises a `SiteFault` if a shell can't read the command for changes, or can't find the program with which it begins."""
+    place = "the command for changes"
+    test_shell_line(line, place)
+    first = FIRST_WORD.match(line)
+    if first and shutil.which(first[1]) is None:
+        known = ["/bin/sh", "-c", 'command -v "$1"', "sh", first[1]]  # a word of the shell itself, such as cd
+        is_known = "/" not in first[1] and subprocess.run(known, stdin=subprocess.DEVNULL, stdout=subprocess.DEVNULL, check=False, timeout=LIMIT).returncode == 0
+        require(is_known, f"{place}: there is no program {first[1]}: put it on the path, or name its whole path")
