@@ -12,7 +12,7 @@ TOP = pathlib.Path(__file__).resolve().parent.parent
 # Files by the way in which their texts are found. Tests aren't read.
 PYTHON = ("monitor/nagsched_monitor/**/*.py", "monitor/nagsched-*", "tools/*.py", "bindings/python/**/*.py", "examples/*.py")
 OTHERS = ("monitor/runner/*.[ch]", "bindings/c/*.[ch]", "include/*.h", "examples/*.c", "crates/*/src/**/*.rt", "tools/*.sh", "monitor/*.sh", "tools/completion/*")
-NOT_READ = re.compile(r"_tests/|/tests?\b|@|\.sysusers$")
+NOT_READ = re.compile(r"_tests/|/tests?(?:/|\.rt)|@|\.sysusers$")
 # Words that a reader of a message knows otherwise, and their alternatives. These are right in documentation.
 MORE_WORDS = {"behind": "after", r"mend(?:s|ed|ing)?": "fix", r"go(?:es)? round": "form a cycle"}
 # Texts of the program that stay: definitions, proofs and cases have them too.

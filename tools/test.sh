@@ -133,7 +133,7 @@ run_gate() {
 
 # What needs no proof.
 run_quick() {
-    tell "compiling the program without proofs, if there is none that is proved"
+    tell "compiling the program without proofs, if it isn't proved yet"
     python3 tools/unproved.py "$program" || { echo "0 passed, 1 failed"; exit 1; }
     tell "$(python3 tools/build_file.py show "$program")"
     lane monitor &
@@ -149,7 +149,7 @@ run_quick() {
 say_what_is_next() {
     echo "Built: $(python3 tools/build_file.py show "$program"), and monitor/out/nagsched-runner"
     [[ $kind = quick ]] || echo "Built: the C library, in out/c"
-    echo "Next: tools/install.sh [PREFIX] installs what is built; README.md shows a site to look at, and a trial beside Nagios."
+    echo "Next: tools/install.sh [PREFIX] installs what is built; README.md shows a site to look at, and a trial next to Nagios."
 }
 
 main() {
