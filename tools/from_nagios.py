@@ -33,6 +33,7 @@ import pathlib
 import sys
 from typing import Any, Callable, Dict, List, Mapping, Sequence, Tuple
 
+import nagios_alerting
 import nagios_commands
 import nagios_groups
 import nagios_notifications
@@ -110,6 +111,9 @@ NOTHING_HERE = {
     "hostextinfo": "nothing is shown",
     "serviceextinfo": "nothing is shown",
 }
+# Kinds that the first alertmanager.yml has.
+ROUTED = {"contact definitions", "contactgroup definitions", "hostescalation definitions", "serviceescalation definitions", "dependencies of notifications",
+          "enable_notifications=0"}
 
 
 def documents_of(options: Members, objects: Sequence[Definition], left_out: LeftOut) -> Setup:
@@ -225,7 +229,10 @@ def write_site_files(arguments: argparse.Namespace, options: Members, objects: S
     periods = nagios_site.periods_of(objects, left_out)
     setup["options"]["max_concurrent_checks"] = 0
     setups, mirrors = ([setup], {}) if fits_one_setup(setup) else parts_of(setup, True)
-    files = {"commands": commands, "periods": periods, "passive": passive, **files_of_people(options, objects, resource, left_out)}
+    files: Dict[str, Any] = {"commands": commands, "periods": periods, "passive": passive, **files_of_people(options, objects, resource, left_out)}
+    is_first = not (arguments.site / nagios_site.ALERTING).exists()
+    if is_first:
+        files[nagios_site.ALERTING] = nagios_alerting.yaml_text(nagios_alerting.configuration(options, objects, files["groups"], unit_of(options), left_out))
     try:
         files["monitor"] = nagios_site.monitor_of(options, nagios_site.options_before(arguments.site))
         nagios_site.write_site(arguments.site, setups, {**files, **({"mirrors": mirrors} if mirrors else {})})
@@ -234,7 +241,8 @@ def write_site_files(arguments: argparse.Namespace, options: Members, objects: S
     for host in setup["hosts"] if options.get("passive_host_checks_are_soft", "0") == "0" else ():
         if passive.get(host["name"], {}).get("only") and host["max_check_attempts"] > 1:
             left_out.add("passive results of hosts", "a problem is soft until its last attempt, where Nagios makes it hard at once", host["name"])
-    left_out.report({*nagios_site.DONE, *OF_A_SITE}, len(setup["hosts"]) + len(setup["services"]) if arguments.all else FEW)
+    routed = {*ROUTED, *left_out.of_verdict("needs a route")} if is_first else set()
+    left_out.report({*nagios_site.DONE, *OF_A_SITE, *routed}, len(setup["hosts"]) + len(setup["services"]) if arguments.all else FEW)
     if len(setups) > 1:
         count = sum(map(len, mirrors.values()))
         print(f"{len(setups)} parts with {count} mirrors: the spread of first checks holds for each apart, and the limit for all", file=sys.stderr)
@@ -244,12 +252,15 @@ def write_site_files(arguments: argparse.Namespace, options: Members, objects: S
 def files_of_people(options: Members, objects: Sequence[Definition], resource: Mapping[str, str], left_out: LeftOut) -> Dict[str, Dict[str, Any]]:
     """The groups of each object with the notifications that it wants, and what people see of it."""
     groups = nagios_groups.Groups(objects).document(objects)
-    # The unit that Nagios counts in: that of the setup can be smaller.
-    length = number_between(1, 86_400)(options.get("interval_length", Value("60", "the default of interval_length")))
-    notifications, shown = nagios_notifications.of_objects(objects, length, resource, left_out)
+    notifications, shown = nagios_notifications.of_objects(objects, unit_of(options), resource, left_out)
     for name, record in notifications.items():
         groups.setdefault(name, {})["notifications"] = record
     return {"groups": groups, "inventory": shown}
+
+
+def unit_of(options: Members) -> int:
+    """The seconds of the unit that Nagios counts in: that of the setup can be smaller."""
+    return number_between(1, 86_400)(options.get("interval_length", Value("60", "the default of interval_length")))
 
 
 def json_text(setup: Setup) -> str:

@@ -31,6 +31,8 @@ DONE = {"check_period", "check_command", "check_freshness", "objects without act
         "hostgroup definitions", "servicegroup definitions", "members that only a site has"}
 # The files that may contain passwords.
 SECRET = {"commands", "inventory"}
+# The configuration of Alertmanager, which is written only if there is none.
+ALERTING = "alertmanager.yml"
 # The longest wait for a reload that reads the site, in seconds.
 PATIENCE = 30.0
 
@@ -173,8 +175,7 @@ def write_new(path: pathlib.Path, document: Any, mode: int) -> pathlib.Path:
         os.fchmod(file, mode)
         with contextlib.suppress(PermissionError):  # a group that the user isn't in; the owner is right
             os.fchown(file, like.st_uid, like.st_gid)
-        json.dump(document, written, ensure_ascii=False, indent=1)
-        written.write("\n")
+        written.write(document if isinstance(document, str) else json.dumps(document, ensure_ascii=False, indent=1) + "\n")
         written.flush()
         os.fsync(file)
     return new
@@ -214,7 +215,7 @@ def write_site(folder: pathlib.Path, setups: Sequence[Any], files: Mapping[str, 
     folder.mkdir(parents=True, exist_ok=True)
     names = ["setup"] if len(setups) == 1 else [f"part-{number}" for number in range(1, len(setups) + 1)]
     documents = {**dict(zip(names, setups)), **files}
-    paths = {name: folder / f"{name}.json" for name in documents}
+    paths = {name: folder / (name if name == ALERTING else f"{name}.json") for name in documents}
     new = {name: write_new(paths[name], document, 0o600 if name in SECRET else 0o644) for name, document in documents.items()}
     with lock_site(folder) as file:
         for name, path in paths.items():

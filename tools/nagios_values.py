@@ -68,6 +68,10 @@ class LeftOut:
         if name is not None:
             self.names[kind].append(name)
 
+    def of_verdict(self, verdict: str) -> Set[str]:
+        """The kinds with this verdict."""
+        return {kind for kind, its in self.verdicts.items() if its == verdict}
+
     def rank(self, kind: str) -> Tuple[int, str]:
         return next((rank for rank, worst in enumerate(self.WORST) if kind.startswith(worst)), len(self.WORST)), kind
 

@@ -70,7 +70,9 @@ def defined(kind: str, members: Dict[str, str]) -> str:
     return f"define {kind} {{\n" + "".join(f"\t{name}\t{value}\n" for name, value in members.items()) + "\t}\n"
 
 
-class TakingOver(unittest.TestCase):
+class Converting(unittest.TestCase):
+    """A folder for Nagios's files, and the site that is made of them."""
+
     def setUp(self) -> None:
         holder = tempfile.TemporaryDirectory()
         self.addCleanup(holder.cleanup)
@@ -91,6 +93,8 @@ class TakingOver(unittest.TestCase):
     def read(self, name: str) -> Any:
         return json.loads((self.site / f"{name}.json").read_text())
 
+
+class TakingOver(Converting):
     def small(self, count: int = 1) -> str:
         """Hosts with a command each, all with one number."""
         hosts = "".join(defined("host", {"host_name": f"h{number}-{count}", "check_command": "dummy", "max_check_attempts": "3"}) for number in range(count))
@@ -123,7 +127,7 @@ class TakingOver(unittest.TestCase):
                 self.assertIn(f"{name}: ${macro}$ has no value before Nagios runs", told)
 
     def test_what_objects_want_of_notifications(self) -> None:
-        """What isn't Nagios's default is in groups.json, in seconds, and each object is named. A downtime (s) is nothing that is notified."""
+        """What isn't Nagios's default is in groups.json, in seconds. Each object is named if alertmanager.yml stays as it was. A downtime (s) is nothing that is notified."""
         full, host = {"host_name": "h", "check_command": "dummy", "max_check_attempts": "3"}, {"first_notification_delay": "0.000000"}
         wishes: List[Tuple[str, Dict[str, str], Any, str]] = [
             ("host usual", {**host, "notification_options": "r,d,u,f,s", "notifications_enabled": "1", "notification_interval": "30.000000",
@@ -144,6 +148,7 @@ class TakingOver(unittest.TestCase):
         text, days = self.small(), {day: "00:00-24:00" for day in ("monday", "tuesday", "wednesday", "thursday", "friday", "saturday", "sunday")}
         text += defined("timeperiod", {"timeperiod_name": "always", **days}) + defined("timeperiod", {"timeperiod_name": "work", "monday": "09:00-17:00"})
         text += defined("host", full)
+        self.take(self.small())
         for kind, name in (it[0].split() for it in wishes):
             members = {**full, **({"host_name": name} if kind == "host" else {"service_description": name})}
             text += defined(kind, {**members, **next(it[1] for it in wishes if it[0] == f"{kind} {name}")})
@@ -187,7 +192,8 @@ class TakingOver(unittest.TestCase):
         for member in members:
             names = [f"{member}-{number}" for number in range(7)]
             self.assertEqual([line.endswith(": " + ", ".join(names)) for line in whole if f" {member}-0" in line], [True], member)
-        self.assertEqual([line.rpartition(": ")[2] for line in told if "contact" in line], ["ann", "all"])
+        self.assertEqual([line.rpartition(": ")[2] for line in told if "contact" in line], ["ann"])
+        self.assertEqual([line.rpartition(": ")[2] for line in whole if "contact" in line], ["ann", "all"])
         self.assertEqual({it["name"]: it["retry_interval"] for it in self.read("setup")["hosts"] if it["name"].startswith("retry")},
                          {f"retry_interval-{number}": 1 for number in range(7)})
 
@@ -299,7 +305,7 @@ class TakingOver(unittest.TestCase):
         (self.site / "part-1.json").write_text("{}")
         self.take(self.small(2))
         self.assertEqual(sorted(path.name for path in self.site.iterdir()),
-                         ["commands.json", "groups.json", "inventory.json", "monitor.json", "passive.json", "periods.json", "runners.json", "setup.json"])
+                         ["alertmanager.yml", "commands.json", "groups.json", "inventory.json", "monitor.json", "passive.json", "periods.json", "runners.json", "setup.json"])
         self.assertEqual([(self.site / f"{name}.json").stat().st_mode & 0o777 for name in ("commands", "inventory", "groups")], [0o600, 0o600, 0o644])
 
     @unittest.skipIf(os.geteuid() != 0, "only root can give files to others")
