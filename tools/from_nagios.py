@@ -78,7 +78,7 @@ TELLING = {
     "accept_passive_host_checks": ("1", "passive results of hosts are taken"),
     "log_passive_checks": ("1", "changes are logged however their results came"),
     "enable_notifications": ("1", "people are notified all the same, unless you set no receivers"),
-    "process_performance_data": ("0", "performance data isn't passed on"),
+    "process_performance_data": ("0", "performance data is passed on as metrics alone"),
 }
 # Options that a site has, but a setup alone doesn't.
 OF_A_SITE = {

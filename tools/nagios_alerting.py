@@ -19,7 +19,7 @@ WORDS = {"host": HOST_WORDS, "service": SERVICE_WORDS}
 SEVERITIES = ("warning", "critical", "unknown", "unreachable")
 # An interval of 0 in Nagios: there is no second notification.
 ONCE = "52w"
-HEAD = """# Made by nagsched-from-nagios from Nagios's contacts, escalations and dependencies. It is yours now: the converter writes it only if there is none.
+HEAD = """# Made by nagsched-from-nagios from Nagios's contacts, escalations and dependencies. It is yours now: the converter doesn't write it again.
 #
 # Test it with `amtool check-config alertmanager.yml`. Give dead-mans-switch the address of a service that calls you when the heartbeat stops.
 # Alerts of objects without a contact go to operators, as do missing results.

@@ -5,6 +5,7 @@ import time
 from typing import Dict, List, Tuple
 from unittest import mock
 
+from nagsched_monitor.model.text import plain_text
 from nagsched_monitor.outputs import metrics, textfile
 from nagsched_monitor.outputs.metrics import family, label_value
 from nagsched_monitor.store.counters import BOUNDS, RESULTS
@@ -122,6 +123,28 @@ class Metrics(PageTest):
         self.assertEqual((families.of("nagsched_soft", host="web", service="disk"), families.of("nagsched_flapping", host="db")), (1, 1))
         self.assertEqual(sum(name in ("nagsched_soft", "nagsched_flapping") for name, _ in families.samples), 2)
 
+    def test_performance_data(self) -> None:
+        """The values of each object's last output, also of one that a list would cut. A scrape has each series once."""
+        fill_database(self.folder, [
+            standing("web", words="fine | rta=0.5ms;100;500;0 pl=0%;20;60"),
+            standing("web;disk", "OK", words=f"{'x' * 600} | '/ \"a\\b'=-23,5%\nlong | more=2 more=3"),
+            standing("web;odd", "OK", words="a | u=U 'it''s'=1e3c;;; big=1e999 version=1.2.3 no =4 x=5;@1:2 =6 'y=7"), standing("db", words="no values=1")])
+        self.serve()
+        found = {labels[1:]: value for (name, labels), value in self.families().samples.items() if name == "nagsched_perfdata"}
+        self.assertEqual({tuple(text for _, text in labels): value for labels, value in found.items()}, {
+            ("web", "", "rta", "ms"): 0.5, ("web", "", "pl", "%"): 0, ("web", "disk", '/ "a\\b', "%"): -23.5, ("web", "disk", "more", ""): 3,
+            ("web", "odd", "it's", "c"): 1000, ("web", "odd", "x", ""): 5})
+        self.assertEqual({tuple(label for label, _ in labels) for labels in found}, {("host", "service", "label", "unit")})
+
+    def test_performance_data_that_is_cut(self) -> None:
+        """The last value of an output that was cut isn't whole."""
+        words = plain_text("a | " + " ".join(f"n{number}={number}12345678" for number in range(1_000)))
+        fill_database(self.folder, [standing("web", words=words)])
+        self.serve()
+        values = [value for (name, _), value in self.families().samples.items() if name == "nagsched_perfdata"]
+        self.assertEqual(values, [float(f"{number}12345678") for number in range(len(values))])
+        self.assertGreater(len(values), 200)
+
     def test_signs_of_life(self) -> None:
         """While the monitor gives no answer, only the facts in the database."""
         now = time.time()
@@ -147,7 +170,7 @@ class Metrics(PageTest):
         fill_database(self.folder, [])
         self.serve()
         families = self.families()
-        self.assertEqual(len(families.kinds), 25)
+        self.assertEqual(len(families.kinds), 26)
         self.assertEqual([name for name, _ in families.samples if "since_save" in name], [])
 
 

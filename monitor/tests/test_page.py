@@ -74,7 +74,7 @@ class Page(PageTest):
 
     def test_every_object(self) -> None:
         objects = [standing(f"h{number}") for number in range(30)]
-        objects += [standing(f"h{number};disk {kind}", "OK", words=f"{number} free") for number in range(30) for kind in "ab"]
+        objects += [standing(f"h{number};disk {kind}", "OK", words=f"{number} free | n={number}") for number in range(30) for kind in "ab"]
         objects.append(standing("new", "PENDING", None, "", since=None, hard_since=None, last_check=None, attempt=1, took=None, late=None))
         fill_database(self.folder, objects)
         self.serve()
@@ -210,9 +210,11 @@ class Page(PageTest):
             StoredChange(3, now - 7_200, "other", "DOWN", "HARD", 1, False, "of another"),
             StoredChange(4, now - 3_600, "h", "DOWN", "SOFT", 1, True, "again"),
         )
-        fill_database(self.folder, [standing("h", "DOWN", "SOFT")], {}, changes)
+        fill_database(self.folder, [standing("h", "DOWN", "SOFT", words="gone | rta=0.5ms\nsince noon")], {}, changes)
         self.serve()
         reader = self.read("/object?name=h")
+        self.assertEqual((reader.tables[0], "gone\nsince noon" in reader.texts, "|" in "".join(reader.texts)), ([["rta", "0.5 ms"]], True, False))
+        del reader.tables[0]
         widths = [(attributes["class"], round(float(str(attributes["width"])[:-1]), 1)) for tag, attributes in reader.tags if tag == "rect"]
         self.assertEqual(widths, [("down", 50.0), ("up", 45.8), ("down", 4.2)])
         self.assertEqual([row[1:] for row in reader.tables[0]], [["DOWN soft FLAPPING", "1", "again"], ["UP", "1", "there again"]])

@@ -10,6 +10,7 @@ import urllib.parse
 from typing import Collection, List, Mapping, Optional, Sequence, Tuple
 
 from ..model.clock import LAST_TIME
+from ..model.performance import performance_values, text_of
 from ..model.text import CONTROLS, first_line
 from ..site.groups_file import Groups
 from ..store.rows import StoredChange, StoredStanding
@@ -104,7 +105,7 @@ def next_check_text(it: StoredStanding, times: Times) -> str:
 def object_row(it: StoredStanding, times: Times, since: Optional[float]) -> Tuple[str, ...]:
     """The cells of an object's row, as HTML."""
     attempt = "" if it.attempt is None else str(it.attempt)
-    state, words = badge(it.state, it.kind, it.flapping), html_text(first_line(it.words))
+    state, words = badge(it.state, it.kind, it.flapping), html_text(first_line(text_of(it.words)))
     return state, link("/object?name", it.name), attempt, times.ago(since), next_check_text(it, times), words
 
 
@@ -223,7 +224,7 @@ def day_chart(status: ObjectStatus, times: Times) -> str:
         name, word = look_of(it.state, it.kind)
         height = THIN if not it.state else LOW if word == "soft" else HIGH
         state = f"{it.state} {word}".rstrip() or "no change is known"
-        title = html_text(f"{times.short(it.time)} to {times.short(end)}: {state} {it.words[:200]}")
+        title = html_text(f"{times.short(it.time)} to {times.short(end)}: {state} {text_of(it.words)[:200]}")
         place = f'x="{left:.3f}%" width="{max(0.1, right - left):.3f}%" y="{BOTTOM - height}" height="{height}"'
         lines.append(f'<rect class="{name}{"" if it.state else " thin"}" {place}><title>{title}</title></rect>')
     for quarter, anchor in enumerate(("start", "middle", "middle", "middle", "end")):
@@ -260,12 +261,14 @@ def object_page(status: ObjectStatus, groups: Groups, site: str, zone: Optional[
         *((kind.replace("_", " "), html_text(", ".join(names))) for kind, names in groups.names.items()),
         *((wish.replace("_", " "), html_text(value.strip(","))) for wish, value in groups.notifications.items()),
     ]
-    changes = [(times.short(each.time), badge(each.state, each.kind, each.flapping), str(each.attempt), html_text(first_line(each.words)))
+    changes = [(times.short(each.time), badge(each.state, each.kind, each.flapping), str(each.attempt), html_text(first_line(text_of(each.words))))
                for each in reversed(status.changes) if each.time >= status.now - DAY]
+    values = [(html_text(its.label), html_text(f"{its.value:g} {its.unit}")) for its in performance_values(it.words)]
     body = [
         f"<h2>{html_text(it.name)} {badge(it.state, it.kind, it.flapping)}</h2>",
         tiles([pair for pair in pairs if pair[1]]),
-        f"<pre>{html_text(it.words) or 'no words'}</pre>",
+        f"<pre>{html_text(text_of(it.words)) or 'no words'}</pre>",
+        table(values, "", ("Performance data", "Value"), "c") if values else "",
         silence_link(it.name, site, alertmanager) if alertmanager and it.is_problem() else "",
         "<h2>The last day</h2>",
         day_chart(status, times),

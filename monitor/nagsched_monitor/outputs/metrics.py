@@ -7,6 +7,7 @@ from typing import Any, Dict, List, Mapping, Sequence, Tuple, Union
 
 from ..faults import MonitorFault
 from ..inputs.client import send_request
+from ..model.performance import performance_values
 from ..site.groups_file import NO_GROUPS, Groups, labels_of
 from ..store.counters import BOUNDS, BUCKETS, RESULTS
 from .nagios_blocks import HOST_STATES, SERVICE_STATES
@@ -105,8 +106,15 @@ def metrics(status: SiteStatus, groups: Mapping[str, Groups], signs: Signs, site
         ("nagsched_state", "gauge", "Of a service 0 OK, 1 WARNING, 2 CRITICAL, 3 UNKNOWN; of a host 0 UP, 1 DOWN, 2 UNREACHABLE.", states),
         ("nagsched_soft", "gauge", "1 for each object whose problem is soft.", soft),
         ("nagsched_flapping", "gauge", "1 for each object that flaps.", flapping),
+        ("nagsched_perfdata", "gauge", "The performance data in the last output of each object.", performance(status)),
     ]
     return "".join(f"{line}\n" for each in families for line in family(*each, site))
+
+
+def performance(status: SiteStatus) -> List[Sample]:
+    """The values in the last output of each object."""
+    objects = ((it.name.partition(";"), performance_values(it.words)) for it in status.objects)
+    return [("", {"host": host, "service": service, "label": its.label, "unit": its.unit}, its.value) for (host, _, service), found in objects for its in found]
 
 
 def status_document(status: SiteStatus, groups: Mapping[str, Groups], site: str) -> Dict[str, Any]:

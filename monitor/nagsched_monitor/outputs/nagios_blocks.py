@@ -2,6 +2,7 @@
 from dataclasses import dataclass, field
 from typing import Any, Dict, Iterable, List, Mapping, NamedTuple
 
+from ..model.performance import split_output
 from ..site.json_files import members_by_name
 from ..store.rows import StoredStanding
 
@@ -104,11 +105,9 @@ def program_block(program: Program, hosts: List[StoredStanding], services: List[
 
 def output_members(words: str) -> Dict[str, str]:
     """A plugin's output, its long output with each line feed as two letters, and its performance data."""
-    first, _, others = words.partition("\n")
-    output, _, performance = first.partition("|")
-    long_output, _, more = others.partition("|")
-    lines = [printable_text(line) for line in long_output.rstrip("\n").split("\n")]
-    return {"plugin_output": printable_text(output), "long_plugin_output": "\\n".join(lines), "performance_data": printable_text(f"{performance} {more}")}
+    output, long_output, performance = split_output(words)
+    lines = [printable_text(line) for line in long_output.split("\n")]
+    return {"plugin_output": printable_text(output), "long_plugin_output": "\\n".join(lines), "performance_data": printable_text(performance)}
 
 
 def object_block(program: Program, its: Settings, kept: StoredStanding, now: float) -> str:

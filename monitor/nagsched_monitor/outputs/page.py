@@ -29,7 +29,7 @@ from ..site.site import read_options
 from ..system.addresses import parse_address
 from ..system.processes import ParentMonitor
 from . import html_pages, metrics
-from .status_query import StatusUnavailable, read_object, read_site_status
+from .status_query import MEMBERS, StatusUnavailable, read_object, read_site_status
 
 # How long a client may send nothing, and how long a request may take in all, in seconds.
 PATIENCE = 5
@@ -118,7 +118,7 @@ class SiteFolder:
         if path == "/status.json":
             return JSON, json.dumps(metrics.status_document(read_site_status(self._folder), groups, self._name), ensure_ascii=False) + "\n"
         if path == "/metrics":
-            return METRICS, metrics.metrics(read_site_status(self._folder), groups, metrics.read_signs(self._folder), self._name)
+            return METRICS, metrics.metrics(read_site_status(self._folder, members=MEMBERS), groups, metrics.read_signs(self._folder), self._name)
         if path == "/object":
             names = urllib.parse.parse_qs(query, keep_blank_values=True).get("name", [])
             status = read_object(self._folder, names[0]) if len(names) == 1 else None

@@ -103,11 +103,11 @@ def read_standings(database: sqlite3.Connection, members: str, condition: str = 
     return sorted(found, key=lambda it: it.name.partition(";"))
 
 
-def read_site_status(folder: pathlib.Path, condition: str = "", *cells: str) -> SiteStatus:
-    """The objects of a site that meet a condition, at one moment; their words are cut."""
+def read_site_status(folder: pathlib.Path, condition: str = "", *cells: str, members: str = CUT) -> SiteStatus:
+    """The objects of a site that meet a condition, at one moment; their words are cut, if not all members are wanted."""
     with open_database(folder) as database:
         figures = dict(database.execute("SELECT name, value FROM figures"))
-        return SiteStatus(time.time(), read_standings(database, CUT, condition, *cells), figures)
+        return SiteStatus(time.time(), read_standings(database, members, condition, *cells), figures)
 
 
 def read_object(folder: pathlib.Path, name: str) -> Optional[ObjectStatus]:

@@ -8,7 +8,7 @@ from ..site.groups_file import GroupsFile
 from ..system.processes import ParentMonitor
 from .metrics import metrics, read_signs
 from .nagios_files import replace_file
-from .status_query import StatusUnavailable, read_site_status
+from .status_query import MEMBERS, StatusUnavailable, read_site_status
 
 # How often the file is written, in seconds.
 EVERY = 15.0
@@ -20,7 +20,7 @@ def main() -> int:
     groups, site, trouble = GroupsFile(folder), folder.resolve().name, ""
     while True:
         try:
-            replace_file(file, metrics(read_site_status(folder), groups.read(), read_signs(folder), site).encode(errors="replace"))
+            replace_file(file, metrics(read_site_status(folder, members=MEMBERS), groups.read(), read_signs(folder), site).encode(errors="replace"))
             trouble = ""
         except (StatusUnavailable, OSError) as fault:
             if not trouble:
