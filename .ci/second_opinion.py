@@ -83,7 +83,7 @@ def planted(text: str, seed: int) -> tuple[str, set[tuple[str, str]]]:
 def check_recorded(program: str, work: pathlib.Path):
     """Eight minutes of a Nagios with 225 objects, outages, passive results, forced checks and a reload."""
     folder = Folder(program, work / "recorded", gzip.decompress((RECORDED / "objects.cache.gz").read_bytes()).decode(), 1)
-    (folder.path / "nagios.log").write_text(f"[{RELOAD}] Nagios 4.4.6 starting... (PID=1)\n")
+    (folder.path / "nagios.log").write_text(f"[{RELOAD - 1}] Caught SIGHUP, restarting...\n[{RELOAD}] Nagios 4.4.6 starting... (PID=1)\n")
     text = gzip.decompress((RECORDED / "results.gz").read_bytes()).decode()
     page = folder.path / "page.html"
     report = folder.report(text, "--late", 20, "--page", page)

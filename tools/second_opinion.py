@@ -79,7 +79,7 @@ class Run:
     def __init__(self, arguments: argparse.Namespace) -> None:
         self.arguments = arguments
         self.found = Findings((lambda harm: print(harm_text(harm), flush=True)) if arguments.follow else lambda harm: None)
-        self.logged, self.sampled = 0, 0.0
+        self.logged, self.sampled, self.is_planned = 0, 0.0, False
         self.configure()
 
     def configure(self) -> None:
@@ -140,7 +140,9 @@ class Run:
         if path.exists():
             with open(path, "rb") as log:
                 log.seek(self.logged if path.stat().st_size >= self.logged else 0)
-                self.opinion.restarts += map(int, re.findall(rb"^\[(\d+)\] \w+ \S+ starting\.\.\.", log.read(), re.MULTILINE))
+                for moment, word in re.findall(rb"^\[(\d+)\] (?:Caught SIG\w+,|\w+ \S+) (restarting|shutting|starting)\b", log.read(), re.MULTILINE):
+                    self.opinion.restarts += [(int(moment), self.is_planned)] if word == b"starting" else []
+                    self.is_planned = word != b"starting"
                 self.logged = log.tell()
 
     def write_page(self) -> None:
@@ -177,7 +179,8 @@ def report(found: Findings, most: int) -> str:
 
 def parsed() -> argparse.Namespace:
     parser = argparse.ArgumentParser(description=__doc__, formatter_class=argparse.RawDescriptionHelpFormatter)
-    built = pathlib.Path(__file__).resolve().parent.parent / "crates/nagsched/out/nagsched"
+    here = pathlib.Path(__file__).resolve().parent
+    built = next(filter(pathlib.Path.is_file, (here.parent / "crates/nagsched/out/nagsched", here.parents[1] / "bin/nagsched")), "nagsched")
     parser.add_argument("--lines", metavar="FILE", help="print what makes Nagios write its results to this file")
     parser.add_argument("--follow", action="store_true", help="continue as Nagios writes")
     parser.add_argument("--for", metavar="SECONDS", dest="seconds", type=float, default=float("inf"), help="with --follow: end after this time")

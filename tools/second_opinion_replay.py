@@ -209,7 +209,7 @@ class Opinion:
         for o in self.rules.objects:
             o.checked = True
         self.held: list[Line] = []
-        self.restarts: list[int] = []
+        self.restarts: list[tuple[int, bool]] = []  # their times, and whether Nagios was asked to
         self.first = 0
         found.objects = max(found.objects, len(self.watches))
 
@@ -263,9 +263,10 @@ class Opinion:
         found = self.found
         self.first, found.first = self.first or now, found.first or now
         found.minutes[now // 60] += 1
-        while self.restarts and self.restarts[0] <= now:
-            if self.restarts.pop(0) > self.first:
-                self.restarted()
+        while self.restarts and self.restarts[0][0] <= now:
+            moment, is_planned = self.restarts.pop(0)
+            if moment > self.first:
+                self.restarted(is_planned)
                 found.count("restarts and reloads of Nagios", clock(now))
         waiting = [watch for watch in self.watches.values() if watch.due and watch.due < now - self.late] if 0 < found.last < now - self.late else []
         if len(waiting) > 2:
@@ -274,9 +275,10 @@ class Opinion:
                 watch.due = watch.due and max(watch.due, now)
         found.last = max(found.last, now)
 
-    def restarted(self) -> None:
-        """Nagios has restarted: what was due may be planned anew."""
+    def restarted(self, is_planned: bool) -> None:
+        """Nagios has restarted: what was due may be planned again. If it was killed, it has older states."""
         for watch in self.watches.values():
+            watch.is_known = watch.is_known and is_planned
             flapped, watch.due, watch.steps = watch.seen, None, None
             rows.restart(watch.of)
             watch.is_flag_lost = bool(flapped) and not watch.of.flaps.flags[5]
