@@ -260,7 +260,7 @@ def check_mirrors(program, work):
     hosts = [HOST.format(name="gateway", parents="")] + [HOST.format(name=f"host-{number:03}", parents="gateway") for number in range(250)]
     objects.write_text("".join(hosts) + "".join(SERVICE.format(host=f"host-{number % 250:03}", number=number // 250) for number in range(5_000)))
     status, _, told = run_from_nagios("--site", work / "flat", OFFICE / "nagios.cfg", objects)
-    files = {path.stem: json.loads(path.read_text()) for path in (work / "flat").iterdir()} if status == 0 else {}
+    files = {path.stem: json.loads(path.read_text()) for path in (work / "flat").glob("*.json")} if status == 0 else {}
     yield "a site behind one gateway", files.get("mirrors") == {"part-2": {"gateway": "part-1"}} and "2 parts with 1 mirrors" in told
     yield "that its parts are setups", all(check_figures(program, files[name])["hosts"] == count for name, count in (("part-1", "196"), ("part-2", "56")))
     status, _, told = run_from_nagios("--site", work / "flat", OFFICE / "nagios.cfg", OFFICE / "objects.precache")

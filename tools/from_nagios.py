@@ -18,8 +18,8 @@ An object without such a line is named on standard error. It is disabled in the 
 
 With --site the files of a site are written to DIRECTORY, as nagsched-monitor reads them. They are one or more setups, the command
 lines, time periods, passive objects, the groups of each object and the notifications that it wants, what people see of it, and the
-monitor's options. All are replaced together, and keep their owners. In monitor.json the members that nagios.cfg doesn't set stay.
-The limit of concurrent checks is then the monitor's, over all parts. Parts have mirrors: a host, a parent or a master of another part
+monitor's options; if there is no alertmanager.yml, that too. All are replaced together, and keep their owners. In monitor.json the
+members that nagios.cfg doesn't set stay. The limit of concurrent checks is then the monitor's, over all parts. Parts have mirrors: a host, a parent or a master of another part
 is also in the part that needs it. It is never checked there, and the monitor reports the results of its original to it.
 
 Settings that are left out, and notifications that need a route of Alertmanager, are named with the objects that they affect: a few of

@@ -100,7 +100,7 @@ class Notifications:
         self.objects, self._length, self._report = objects, length, report
         self.groups: Dict[str, List[str]] = {}
         self.mail_commands = {str(members["command_name"]) for kind, _, members in objects
-                              if kind == "command" and "$CONTACTEMAIL$" in members["command_line"]}
+                              if kind == "command" and "$CONTACTEMAIL$" in members.get("command_line", "")}
         for kind, _, members in objects:
             if kind == "contactgroup":
                 self.groups[str(members["contactgroup_name"])] = split_list(members.get("members", ""))

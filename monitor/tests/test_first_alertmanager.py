@@ -212,6 +212,12 @@ class FirstConfiguration(Converting):
     def labels(self, event: Event) -> Labels:
         return {"site": "site", **labels_of(event.name, read_groups(self.site)), "alertname": event.alert, "severity": event.severity}
 
+    def receivers(self, labels: Sequence[str]) -> List[str]:
+        """The receivers that amtool finds for an alert."""
+        ran = subprocess.run(["amtool", "config", "routes", "test", f"--config.file={self.path}", *labels], stdout=subprocess.PIPE, stderr=subprocess.DEVNULL,
+                             text=True, timeout=LONG, check=True)
+        return sorted(ran.stdout.strip().split(","))
+
     def configuration(self) -> Dict[str, Any]:
         """The content of the file as data, of which the file is the text."""
         make = ("import json, pathlib, sys, nagios_alerting as a, nagios_values as v; work = pathlib.Path(sys.argv[1]); report = v.LeftOut(); "
@@ -244,9 +250,30 @@ class FirstConfiguration(Converting):
         model = Model(self.configuration(), [])
         for event in (event for events in EVENTS.values() for event in events):
             words = [f"{label}={value}" for label, value in self.labels(event).items()]
-            ran = subprocess.run(["amtool", "config", "routes", "test", f"--config.file={self.path}", *words], stdout=subprocess.PIPE, stderr=subprocess.DEVNULL,
-                                 text=True, timeout=LONG, check=True)
-            self.assertEqual(sorted(ran.stdout.strip().split(",")), sorted(route["receiver"] for route in model.routes(self.labels(event))), event)
+            self.assertEqual(self.receivers(words), sorted(route["receiver"] for route in model.routes(self.labels(event))), event)
+
+    def test_what_is_named(self) -> None:
+        """Contacts without a mail address that works, and what Alertmanager does otherwise. With notifications off, nobody hears of a problem."""
+        contacts: Dict[str, Dict[str, str]] = {
+            "no address": {}, "pager": {"email": "p@example.org", "host_notification_commands": "page"}, "here": {"email": "root"}}
+        text = nagios_objects() + defined("command", {"command_name": "page", "command_line": "/usr/bin/page $CONTACTPAGER$"})
+        text += "".join(defined("contact", {"contact_name": name, "host_notification_options": "d", **members}) for name, members in contacts.items())
+        text += defined("host", {"host_name": "h", "check_command": "dummy", "max_check_attempts": "3", "contacts": ",".join(contacts)})
+        text += defined("hostescalation", {"host_name": "h", "first_notification": "2", "last_notification": "4", "contacts": "ann"})
+        text += defined("hostdependency", {"host_name": "gw", "dependent_host_name": "h", "notification_failure_options": "o,p"})
+        self.path.unlink()
+        told = self.take(text, "enable_notifications=0\n").splitlines()
+        self.assertIn("needs a receiver: contacts without mail (2): their receivers in alertmanager.yml notify nobody until you give them a way: "
+                      "no address, pager", told)
+        self.assertIn("needs a receiver: mail addresses without a domain (1): Alertmanager can't send mail to them: add the domain: here", told)
+        self.assertIn("differs: last_notification of a hostescalation (1): its contacts are notified until the problem ends: h", told)
+        for letter in "op":
+            self.assertTrue(any(line.startswith(f"left out: notification_failure_options {letter} (1): ") for line in told), told)
+        muted = [line for line in self.path.read_text().splitlines() if "NagschedProblem|NagschedFlapping" in line]
+        self.assertEqual(len(muted), 1)
+        if shutil.which("amtool") is not None:
+            labels = [f"alertname={PROBLEM}", "host=h", "severity=critical", "contacts=,here,"]
+            self.assertEqual(self.receivers(labels), ["nobody"])
 
     def test_it_is_written_once(self) -> None:
         self.path.write_text("mine")
