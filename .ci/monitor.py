@@ -64,7 +64,7 @@ def mypy_report():
     checks = [
         (["nagsched_monitor", "tests"], TOP / "monitor", ""),
         (["from_nagios.py", "unproved.py", "manual_c.py"], TOP / "tools", ""),
-        ([".ci/needs.py", ".ci/missing.py", ".ci/gate.py", "bindings/python/backend.py"], TOP, ""),
+        ([".ci/needs.py", ".ci/missing.py", ".ci/gate.py", ".ci/pairs.py", "bindings/python/backend.py"], TOP, ""),
         (["bindings/python/nagsched", "examples/loop.py"], TOP, "bindings/python"),
         (["second_opinion.py"], TOP / "tools", f"{TOP / 'conformance/nagios'}:{TOP / 'monitor'}"),
     ]

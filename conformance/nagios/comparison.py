@@ -67,14 +67,14 @@ class Comparison:
         self.calls: list[str] = [histories.text(history.setup)]
         self.answers: list[str] = []
         self.asked: list[tuple[str, int]] = []
-        self.commands = iter(history.commands)
+        self.commands = (command for command in history.commands if command.word in histories.NAGIOS_WORDS)
         self.place = "the first checks"
         firsts = [words for words in told if words[0] == "first"]
         self.first_checks(firsts)
         for words in told[len(firsts):]:
             self.place = " ".join(words)
             handle = {"start": self.turn, "putoff": self.turn, "held": self.turn, "asked": self.on_asked, "result": self.on_result,
-                      "command": self.on_command}[words[0]]
+                      "command": self.on_command, "clock": self.on_clock}[words[0]]
             handle(words)
 
     # ---- comparing
@@ -338,6 +338,8 @@ class Comparison:
                 steps.append(("put off by the retry interval", by_kind * 1000 if by_kind > now else None))
             if by_kind == now and there == (now + 300) * 1000:
                 steps.append(("five minutes", there))
+            if by_kind - now >= model.TOO_LONG:
+                steps.append(("long interval", there))
             self.compare("time after a turn", o.next, there, *steps)
         elif here != "start":
             row = barred or {"runs": "checked twice at once", "off": "switching off"}[here]
@@ -351,10 +353,10 @@ class Comparison:
     def requests(self, of: Object, result: model.Result, now: int, what: str) -> None:
         """Compares the checks that Nagios asked for with the model's; nagsched asks for none."""
         moved = []
-        for o, on_demand in result.asked:
-            self.counts.requests[f"{what} asks for {relation(o, of)}"] += 1
+        for o, why in result.asked:
+            self.counts.requests[f"{what} asks for {why}{'' if why == model.HOST else f' that is {o.there.state}'}"] += 1
             before = o.event, o.next_check, o.forced_option
-            if self.nagios.schedule(o, now, now, False, on_demand):
+            if self.nagios.schedule(o, now, now, False, why != model.MASTER):
                 moved.append((o.name, now))
                 self.compare("check on demand", None, now * 1000, ("checks on demand", now * 1000))
             if not self.history.keeps:
@@ -389,6 +391,15 @@ class Comparison:
         self.expect("the waiting check", o.event and (o.event.time * 1000, o.event.forced), there)
         here = None if visible(o.next) is None else (o.next, o.forced)
         self.compare("time after a call", here, there, (row, there))
+        self.follow(o)
+
+    def on_clock(self, words: list[str]) -> None:
+        """The clock was set back, or the process stopped: Nagios may have moved the object's times. nagsched isn't told."""
+        o, now, by, stays = self.objects[words[1]], int(words[2]), int(words[4]), visible(self.objects[words[1]].next)
+        if by < 0 or by >= self.history.threshold:
+            self.nagios.clock_changed(o, now, by)
+        self.expect("the waiting check", o.event and o.event.time * 1000, seconds(words[3]))
+        self.compare("time after a change of the clock", stays, seconds(words[3]), ("clock set back" if by < 0 else "pause", seconds(words[3])))
         self.follow(o)
 
     def on_result(self, words: list[str]) -> None:
@@ -491,9 +502,3 @@ def situation(o: Object, state: str, was: str, host: str) -> str:
         return f"host {was} to {state}"
     change = "OK" if state == "OK" else "the same problem" if state == was else "a new or another problem"
     return f"service with {change}, host {host}"
-
-
-def relation(o: Object, of: Object) -> str:
-    if o is of.host:
-        return "the host"
-    return f"a {'parent' if o in of.parents else 'child' if o in of.children else 'master'} that is {o.there.state}"

@@ -8,7 +8,7 @@ from __future__ import annotations
 import dataclasses
 from typing import Any, Optional
 
-from histories import START, Command, History, Plan
+from histories import NO_THRESHOLD, START, Command, History, Plan
 from model import Standing
 
 ANY = object()  # a value that Nagios draws at random
@@ -50,14 +50,15 @@ def plan(text: str) -> Plan:
 
 
 def history(until: int, *objects: dict[str, Any], checks: dict[str, str], commands: tuple[tuple[int, str, str, int], ...] = (),
-            links: tuple[dict[str, Any], ...] = (), options: Optional[dict[str, Any]] = None, keeps: bool = False, config: str = "", early: int = 0) -> History:
+            links: tuple[dict[str, Any], ...] = (), options: Optional[dict[str, Any]] = None, keeps: bool = False, config: str = "", early: int = 0,
+            threshold: int = NO_THRESHOLD) -> History:
     """A history of these hosts and services for this number of seconds. First checks aren't spread unless an option says so."""
     setup = {"options": {"host_inter_check_delay_method": "n", "service_inter_check_delay_method": "n", **(options or {})},
              "hosts": [item for item in objects if "name" in item], "services": [item for item in objects if "host" in item],
              "service_dependencies": [link for link in links if ";" in link["master"]],
              "host_dependencies": [link for link in links if ";" not in link["master"]]}
     called = tuple(Command(START + at, word, name, START + time) for at, word, name, time in commands)
-    return History(setup, {name: plan(text) for name, text in checks.items()}, START + until, called, keeps, 15 if keeps else 0, early, config)
+    return History(setup, {name: plan(text) for name, text in checks.items()}, START + until, called, keeps, 15 if keeps else 0, early, config, threshold)
 
 
 def spread(count: int, options: dict[str, Any], **members: Any) -> History:
@@ -125,6 +126,12 @@ SHOWN = (
           "time after a call", (406_000, False), (300_000, False)),
     Shown("switching on", history(82, host(), checks={"h": "0"}, commands=((80, "disable", "h", 0), (82, "enable", "h", 0))),
           "time after a call", (300_000, False), (82_000, False)),
+    Shown("long interval", history(0, host("a", check_interval=525_600), host("b"), checks={"a": "0", "b": "0"}, links=(link("a", "b", "p,o"),),
+                                   options={"interval_length": 5_938}), "time after a turn", 525_600 * 5_938_000, 300_000),
+    Shown("pause", history(100, host(), checks={"h": "0"}, commands=((100, "PAUSE 900", "h", 0),), threshold=900),
+          "time after a change of the clock", 300_000, 1_200_000),
+    Shown("clock set back", history(100, host(), checks={"h": "0"}, commands=((100, "PAUSE -40", "h", 0),)),
+          "time after a change of the clock", 300_000, 260_000),
     Shown("switching off", history(300, host(), checks={"h": "0"}, commands=((80, "disable", "h", 0),)), "time after a turn", 300_000, None),
 )
 
@@ -152,13 +159,13 @@ TOLD = (
          ("start h;s 0", "start h 0", "start h 660", "start h;s 720"),
          ('["take",0]', '["take",0]', '["take",800000]'), ("taken 1 h", "taken 2 h;s", "idle none")),
     Told("pause", history(2700, QUIET, service("a"), service("b"), checks={"h;a": "0", "h;b": "0"}, commands=((400, "PAUSE 2000", "h", 0),),
-                          options={"service_inter_check_delay_method": "s"}, config="time_change_threshold=900\n"),
+                          options={"service_inter_check_delay_method": "s"}, threshold=900),
          ("start h;a 150", "start h;b 300", "start h;a 2450", "start h;b 2600"),
          ('["take",0]', '["report","h;a",1,0]', '["take",150000]', '["report","h;b",2,0]', '["take",2400000]', '["take",2400000]'),
          ("taken 1 h;a", "standing OK HARD 1 no STEADY 300000 h;a", "taken 2 h;b", "standing OK HARD 1 no STEADY 450000 h;b", "taken 3 h;a",
           "taken 4 h;b")),
     Told("pause", history(1000, QUIET, service("a"), service("b"), checks={"h;a": "0", "h;b": "0"}, commands=((400, "PAUSE 600", "h", 0),),
-                          options={"service_inter_check_delay_method": "s"}, config="time_change_threshold=900\n"),
+                          options={"service_inter_check_delay_method": "s"}, threshold=900),
          ("start h;a 150", "start h;b 300", "start h;a 1000", "start h;b 1000"), (), ()),
     Told("passive result of a host", history(150, host(attempts=3), checks={"h": "0"}, commands=((100, NAGIOS_ONLY, "h", 0),)),
          ("command h 100 300 0 1 1 1 1",), ('["take",0]', '["report","h",1,2]'), ("taken 1 h", "standing DOWN SOFT 1 yes STEADY 60000 h")),

@@ -8,7 +8,7 @@
  *   play DIRECTORY START END KEEP EARLY    DIRECTORY has nagios.cfg. Times are in seconds. KEEP is 1 if checks on demand stay in the queue;
  *                                          otherwise they are reported and taken out. EARLY is by how many ms the loop wakes too soon
  *   plan NAME SECONDS:CODE ..              how long the checks of an object take and what they return, again and again; without it no result comes
- *   at TIME NAME TEXT                      an external command; PAUSE SECONDS stops the process
+ *   at TIME NAME TEXT                      an external command; PAUSE SECONDS stops the process, or sets the clock back if SECONDS are below 0
  *   go
  *
  * Standard output has one line for each event, and `end` after a history. A time that doesn't exist is `-`.
@@ -20,6 +20,7 @@
  *   asked NAME NOW DUE RECENT              the result in the next line asked for this check; RECENT is 1 if cached results count
  *   result NAME NOW CODE BEGUN STATE HARD ATTEMPT LASTHARD LASTSTATE FLAPPING PERCENT DUE FORCED LOGGED HOSTFLAPPING HOSTPERCENT
  *   command NAME NOW DUE FORCED ENABLED STATE HARD ATTEMPT
+ *   clock NAME NOW DUE BY                  after a PAUSE of BY seconds: a line for each object
  */
 #define NSCORE 1
 #include <stdarg.h>
@@ -71,6 +72,7 @@ static int object_count, run_count, command_count, command_next;
 static long long now;
 static long end_time;
 static int keeps, early, begun_before;
+static long paused; /* the seconds of a PAUSE that Nagios hasn't seen yet */
 static char logged[64];
 static FILE *out; /* standard output, to which Nagios itself would also write */
 
@@ -253,11 +255,17 @@ static void end_run(run *which)
 
 /* ---- the event loop: the next thing is a command, the end of a plugin, or an event of the queue */
 
+static int is_pause(order *c) { return !strncmp(c->text, "PAUSE ", 6); }
+
 static void run_command(order *c)
 {
 	char line[600];
-	if (!strncmp(c->text, "PAUSE ", 6)) {
-		now += atol(c->text + 6) * SECOND;
+	if (is_pause(c)) {
+		paused = atol(c->text + 6);
+		now += paused * SECOND;
+		for (run *r = runs; paused < 0 && r < runs + run_count; r++)
+			if (r->ends >= 0)
+				r->ends += paused * SECOND;
 		return;
 	}
 	snprintf(line, sizeof line, "[%lld] %s", now / SECOND, c->text);
@@ -269,8 +277,16 @@ static void run_command(order *c)
 		s ? s->current_state : h->current_state, s ? s->state_type : h->state_type, s ? s->current_attempt : h->current_attempt);
 }
 
+static void tell_clock(void)
+{
+	for (object *o = objects; paused && o < objects + object_count; o++)
+		tell("clock %s %lld %s %ld\n", o->name, now / SECOND, due(o), paused);
+	paused = 0;
+}
+
 int __wrap_iobroker_poll(iobroker_set *set, int ms)
 {
+	tell_clock();
 	const struct timeval *when = squeue_event_runtime(((timed_event *)squeue_peek(nagios_squeue))->sq_event);
 	long long next = when->tv_sec * SECOND + when->tv_usec;
 	run *ended = NULL;
@@ -283,6 +299,11 @@ int __wrap_iobroker_poll(iobroker_set *set, int ms)
 	int is_command = command_next < command_count && commands[command_next].at * SECOND < next;
 	if (is_command)
 		next = commands[command_next].at * SECOND;
+	/* Nagios looks at the clock once more before it is changed, as it does every 1.5 s. */
+	if (is_command && is_pause(&commands[command_next]) && next > now) {
+		now = next;
+		return 0;
+	}
 	if (next >= (end_time + 1) * SECOND) {
 		sigshutdown = TRUE;
 		return 0;

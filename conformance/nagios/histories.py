@@ -12,6 +12,7 @@ from typing import Any, Sequence
 from model import Setup as Setup, names as names
 
 START = 1_000_000_000  # when each history begins, in seconds
+NO_THRESHOLD = 1_000_000_000  # seconds that no pause has
 TIMEOUT = 3600  # seconds for the harness to play the histories that it gets
 Plan = list[tuple[int, int]]  # for each check, its seconds and its return code
 
@@ -49,6 +50,7 @@ class History:
     horizon: int = 0
     early: int = 0
     config: str = ""  # more lines of nagios.cfg
+    threshold: int = NO_THRESHOLD  # a pause of so many seconds moves all times
 
     def lines(self, directory: pathlib.Path) -> list[str]:
         plans = [f"plan {name} " + " ".join(f"{takes}:{code}" for takes, code in plan) for name, plan in self.plans.items() if plan]
@@ -190,13 +192,12 @@ check_for_orphaned_hosts=0
 check_service_freshness=0
 check_host_freshness=0
 enable_flap_detection=1
-time_change_threshold=1000000000
 event_broker_options=0
 """
 
 
 def config(history: History, directory: pathlib.Path) -> str:
-    lines = [CONFIG.format(directory)]
+    lines = [CONFIG.format(directory), f"time_change_threshold={history.threshold}\n"]
     for sort in ("host", "service"):
         lines.append(f"cached_{sort}_check_horizon={history.horizon}\nenable_predictive_{sort}_dependency_checks={int(history.keeps)}\n")
     for name, value in history.setup.get("options", {}).items():

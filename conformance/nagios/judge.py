@@ -1,13 +1,13 @@
 #!/usr/bin/env python3
 """Lets Nagios Core 4.4.6's own code judge nagsched, over random histories. Run it manually; it isn't part of the gate.
 
-    conformance/nagios/judge.py BUILT [HISTORIES] [--seed SEED] [--program PROGRAM] [--one NUMBER] [--page PAGE]
+    conformance/nagios/judge.py BUILT [HISTORIES] [--wide] [--seed SEED] [--program PROGRAM] [--one NUMBER] [--page PAGE]
     conformance/nagios/judge.py BUILT sequences [--program PROGRAM]
 
 build.sh has left the harness in the directory BUILT. The harness plays each history, and `nagsched live` answers the same calls. The program
 must answer by the rules (model.Rules), and Nagios must act by model.Nagios. If the two sides differ, a row of the page docs/NAGIOS.md must
 explain that very answer. Anything else fails, and the history is cut down to a small example. The directed histories (directed.py) are played
-first, so that each row of the page is shown; a row that no history shows fails too. `sequences` plays every sequence of seven results, with 1
+first, so that each row of the page is shown; a row that no history shows fails too. `--wide` takes the histories from wide.py. `sequences` plays every sequence of seven results, with 1
 to 4 attempts, of hosts and of services whose host is up.
 """
 from __future__ import annotations
@@ -27,6 +27,7 @@ import directed
 import histories
 import model
 import smaller
+import wide
 from comparison import Comparison, Counts, Failure
 from histories import START, History, Told
 from model import Standing
@@ -90,8 +91,9 @@ def sequences() -> Iterator[History]:
         yield History(setup, {name: plan for name in histories.names(setup) if name != "up"}, START + size - 1)
 
 
-def random_history(seed: str, number: int) -> History:
-    return histories.random_history(random.Random(f"{seed}/{number}"))
+def random_history(seed: str, number: int, is_wide: bool = False) -> History:
+    chance = random.Random(f"{seed}/{number}")
+    return wide.random_history(chance) if is_wide else histories.random_history(chance)
 
 
 # ---- directed histories
@@ -194,6 +196,7 @@ def arguments() -> argparse.Namespace:
     parser = argparse.ArgumentParser(description="Lets Nagios's own code judge nagsched.")
     parser.add_argument("built", type=pathlib.Path, help="the directory that build.sh filled")
     parser.add_argument("histories", nargs="?", default="2000", help="how many random histories, or 'sequences'")
+    parser.add_argument("--wide", action="store_true", help="histories over the whole ranges of the setup, with changed clocks (wide.py)")
     parser.add_argument("--seed", default="1")
     parser.add_argument("--program", default=str(TOP / "crates/nagsched/out/nagsched"), help="nagsched, or 'none' for the rules alone")
     parser.add_argument("--page", type=pathlib.Path, default=TOP / "docs/NAGIOS.md", help="the page whose rows may explain a difference")
@@ -215,7 +218,7 @@ def main() -> int:
     numbered: Iterator[tuple[int, History]] = enumerate(sequences())
     if options.histories != "sequences":
         numbers = range(int(options.histories)) if options.one is None else [options.one]
-        numbered = iter((number, random_history(options.seed, number)) for number in numbers)
+        numbered = iter((number, random_history(options.seed, number, options.wide)) for number in numbers)
     while batch := list(itertools.islice(numbered, 4 if options.histories == "sequences" else BATCH)):
         for (number, history), told in zip(batch, histories.play(options.built, [history for _, history in batch])):
             if options.one is not None:

@@ -18,7 +18,10 @@ GOOD = ("OK", "UP")
 SERVICE_STATES = ("OK", "WARNING", "CRITICAL", "UNKNOWN")
 HOST_STATES = ("UP", "DOWN", "UNREACHABLE")
 LETTERS = {"OK": "o", "WARNING": "w", "CRITICAL": "c", "UNKNOWN": "u", "UP": "o", "DOWN": "d", "UNREACHABLE": "u"}
+TOO_LONG = 2**31  # seconds that don't fit into the int that Nagios has for an interval
 HISTORY = 20  # changes that count for flapping
+# What an object is whose check Nagios asks for. A recent result counts for it, except for a master's.
+HOST, PARENT, CHILD, MASTER = "the host", "a parent", "a child", "a master"
 DEFAULTS: dict[str, Any] = {
     "interval_length": 60, "service_inter_check_delay_method": "s", "max_service_check_spread": 30, "service_interleave_factor": "s",
     "host_inter_check_delay_method": "s", "max_host_check_spread": 30, "max_concurrent_checks": 0, "soft_state_dependencies": False,
@@ -347,7 +350,7 @@ class Result(NamedTuple):
     base: int  # the next check counts from here, in seconds
     interval: int
     is_soft_recovery: bool  # of a service, which is then checked after the retry interval
-    asked: list[tuple[Object, bool]]  # for these checks, and whether a recent result counts for it
+    asked: list[tuple[Object, str]]  # for these checks, and why: HOST, PARENT, CHILD or MASTER
 
 
 class Nagios:
@@ -395,11 +398,21 @@ class Nagios:
     def interval(self, o: Object) -> int:
         """The time by which a check that can't be made is put off."""
         interval = self.rules.interval(o, o.there)
+        if interval >= TOO_LONG:
+            interval = -TOO_LONG
         return interval if interval > 0 or not o.is_host else 300
 
     def begin(self, o: Object) -> None:
         o.event, o.forced_option, o.executing = None, False, True
         self.running += not o.is_host
+
+    def clock_changed(self, o: Object, now: int, by: int) -> None:
+        """Moves the object's times by these seconds, to a clock that shows this moment now."""
+        if o.event is not None:
+            time = o.event.time + by
+            o.event = o.event._replace(time=time, due=max(time, now))
+        o.next_check += by if o.next_check else 0
+        o.last_check += by if o.last_check else 0
 
     def put_off(self, o: Object, now: int) -> None:
         """Handles an event whose check isn't made."""
@@ -464,7 +477,7 @@ class Nagios:
         self.settle(o, shown)
         return Result(logged, base, interval, is_good and kind_before == kind == SOFT, asked)
 
-    def asked_by_service(self, host: Object, was: str, state: str, now: int) -> list[tuple[Object, bool]]:
+    def asked_by_service(self, host: Object, was: str, state: str, now: int) -> list[tuple[Object, str]]:
         is_up = host.there.state == "UP"
         if state != "OK":
             is_asked = is_up and was != state and host.last_check + self.horizon < now
@@ -472,23 +485,23 @@ class Nagios:
             is_asked = host.next_check == 0 or host.next_check < host.check + now
         else:
             is_asked = not is_up and (was != "OK" or now - host.last_check >= self.horizon)
-        return [(host, True)] if is_asked else []
+        return [(host, HOST)] if is_asked else []
 
     def host_result(self, o: Object, state: str, begun: int, now: int) -> Result:
         was, kind, attempt, last_hard = o.there
         is_up = state == "UP"
-        asked: list[tuple[Object, bool]] = []
+        asked: list[tuple[Object, str]] = []
         becomes_hard = False
         if was == "UP":
             kind, attempt = HARD if is_up else SOFT, 1
             if not is_up:
-                asked += [(parent, True) for parent in o.parents if parent.there.state != "UP"]
-                asked += [(child, True) for child in o.children if child.there.state != "UNREACHABLE"]
+                asked += [(parent, PARENT) for parent in o.parents if parent.there.state != "UP"]
+                asked += [(child, CHILD) for child in o.children if child.there.state != "UNREACHABLE"]
                 if self.is_predictive and o.most == 2:
-                    asked += [(link.master, False) for link in o.links]
+                    asked += [(link.master, MASTER) for link in o.links]
         elif is_up:
-            asked += [(parent, True) for parent in o.parents if parent.there.state == "UP"]
-            asked += [(child, True) for child in o.children if child.there.state != "UP"]
+            asked += [(parent, PARENT) for parent in o.parents if parent.there.state == "UP"]
+            asked += [(child, CHILD) for child in o.children if child.there.state != "UP"]
             if kind == HARD:
                 becomes_hard, attempt = True, 1
         base, interval = (now, o.retry) if kind == SOFT and not is_up else (begun, o.check)
