@@ -98,6 +98,18 @@ class Phases(SiteTest):
             self.assertEqual(len(counts), 10)
             self.assertTrue(70 <= min(counts.values()) and max(counts.values()) <= 130, counts)
 
+    def test_a_reload_with_another_interval(self) -> None:
+        """Objects that fill a minute fill a minute and a half."""
+        hosts = [host(f"h{number:02}") for number in range(60)]
+        self.write_site(hosts, [], {"host_inter_check_delay_method": 1_000})
+        monitor = self.monitor(fine)
+        monitor.run(70)
+        self.write_site([{**each, "check_interval": 90} for each in hosts], [], {"host_inter_check_delay_method": 1_000})
+        monitor.engine.reload(read_site(self.folder, PROGRAM))
+        monitor.run(360)
+        starts = [start for start, _ in monitor.runners.started if start > monitor.clock.now - 180_000]
+        self.assertLess(max(later - earlier for earlier, later in zip(starts, starts[1:])), 15_000)
+
     def test_a_reload_keeps_an_object_in_phase(self) -> None:
         self.write_site([host("web")], [service("web", "http", check_interval=120)], {"service_inter_check_delay_method": 7_000})
         monitor = self.monitor(fine)
