@@ -310,7 +310,7 @@ def check_site(work):
     (work / "site.cfg").write_text("".join(f"{name}={value}\n" for name, value in options.items()))
     (work / "resource.cfg").write_text("$USER1$=/plugins\n")
     status, _, told = run_from_nagios("--site", work / "site", "--resource", work / "resource.cfg", work / "site.cfg", work / "site.precache")
-    files = {path.stem: json.loads(path.read_text()) for path in (work / "site").iterdir()} if status == 0 else {}
+    files = {path.stem: json.loads(path.read_text()) for path in (work / "site").glob("*.json")} if status == 0 else {}
     yield "the files of a site", sorted(files) == ["commands", "groups", "inventory", "monitor", "passive", "periods", "setup"]
     commands = files["commands"]
     yield "its limits", (commands["h"]["limit"], commands["h;plain"]["limit"]) == (7, 20)
