@@ -14,10 +14,9 @@ use Rattle.setup_objects.specs.declared.object_index.Host.{Host}
 use Rattle.setup_objects.specs.declared.object_index.Service.{Service}
 use Rattle.setup_objects.specs.Configuration as spec
 use Rattle.setup_objects.specs.Entries.{host_entry, service_entry, names_in}
-use Rattle.setup_objects.specs.Numbering.{configuration, numbered_host, hosts_in_order, services_in_order, names_in_order, host_body}
+use Rattle.setup_objects.specs.Numbering.{configuration, numbered_host, hosts_in_order, names_in_order}
 use Rattle.setup_objects.proofs.NameLemmas.{found, no_host_has}
 use Rattle.setup_objects.proofs.NumberedLemmas.{known_in_order, full_name_in_order}
-use Rattle.check_objects.proofs.OrderLemmas.{hosts_all, services_all}
 use Rattle.check_objects.proofs.SetupLemmas.{parted_hosts}
 
 -- ---- one name
@@ -46,8 +45,8 @@ module _ (ds : ParsedSetup) (e : verification ds ≡ Ok tt) (hosts : List (Strin
   host_known name =
       let hs = hosts_in_order ds.hosts in
       host_entry_known hosts (configuration ds).hosts hosts_are name
-      ∙ list_any-map (λ h. bytes_eq name h.name) (numbered_host (names_in_order ds.hosts)) hs ∙ sym (list_any-map (bytes_eq name) (λ h. h.0) hs)
-      ∙ sym (known_in_order ds.hosts host_body hs (hosts_all ds e) name)
+      ∙ list_any-map (λ h. bytes_eq name h.name) (numbered_host (names_in_order ds.hosts)) hs ∙ sym (list_any-map (bytes_eq name) (λ h. h.name) hs)
+      ∙ sym (known_in_order ds.hosts name)
 
   pub host_ends : have_known_ends (names_in hosts) ds.host_dependencies ≡ true
   host_ends = ends_alike (names_of ds.hosts) (names_in hosts) (λ name. sym (host_known name)) ds.host_dependencies ∙ (faultless ds e).host_ends
@@ -58,7 +57,7 @@ module _ (ds : ParsedSetup) (e : verification ds ≡ Ok tt) (hosts : List (Strin
   pub service_known : (name : List ℕ) → is_known (names_in services) name ≡ is_known (full_names ds.services) name
   service_known name =
       service_entry_known services (configuration ds).services services_are name
-      ∙ full_name_in_order ds.services (λ s. s.check) (services_in_order ds.services) (services_all ds e) (names_in_order ds.hosts) name
+      ∙ full_name_in_order ds.services (names_in_order ds.hosts) name
 
   -- no name is in both maps
   pub names_apart : (name : List ℕ) → is_known (names_in services) name ≡ true → is_known (names_in hosts) name ≡ false

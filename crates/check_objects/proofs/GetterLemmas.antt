@@ -1,5 +1,5 @@
 -- What the getters of a setup give: items at a place, dependencies by number, links host by host.
-use Rattle.std.proofs.Common.{◌≡◌, ℕ, zero, suc, get_or, ◌+◌, ◌<◌, Bool, true, List, [], ◌∷◌, ◌++◌, map, take}
+use Rattle.std.proofs.Common.{◌≡◌, ℕ, zero, suc, get_or, ◌+◌, ◌<◌, true, List, [], ◌∷◌, ◌++◌, map, take}
 use Rattle.std.proofs.Common.{length, Some, String, Global, refl, sym, ap, ◌∙◌, arith}
 use Rattle.std.specs.Prelude.{nat_lt, slice_get, All, slice_index_or}
 use Rattle.std.specs.List.{list_all}
@@ -13,11 +13,6 @@ use Rattle.setup_objects.specs.Configuration.{Configuration, IsSetup, masters_in
 use Rattle.setup_objects.specs.Entries.{host_entry}
 use Rattle.setup_order.proofs.TestLemmas.{both_true}
 use Rattle.std.proofs.lemmas.List.Folds.{list_all-map}
-
-pub all_at : {A : Type 0} (p : A → Bool) (xs : List A) (i : ℕ) (x : A) → list_all p xs ≡ true → slice_get xs i ≡ Some x → p x ≡ true
-all_at p [] i x h e = cc
-all_at p (y ∷ xs) zero x h e = let same : y ≡ x = cc in ap p (sym same) ∙ (both_true (p y) (list_all p xs) h).0
-all_at p (y ∷ xs) (suc i) x h e = all_at p xs i x (both_true (p y) (list_all p xs) h).1 e
 
 -- ---- dependencies
 

@@ -1,4 +1,3 @@
-pub mod OrderLemmas
 pub mod SetupLemmas
 pub mod GetterLemmas
 pub mod CycleLemmas

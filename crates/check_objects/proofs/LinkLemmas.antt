@@ -14,17 +14,16 @@ use Rattle.setup_model.specs.Ends.{full_names, has_known_ends, is_known}
 use Rattle.setup_verification.specs.Verification.{verification}
 use Rattle.setup_model.specs.Keys.{names_of}
 use Rattle.check_objects.specs.Links.{named_parents, named_dependency, named_dependencies, all_named_dependencies}
-use Rattle.setup_objects.specs.Numbering.{index_of_name, numbered_host, numbered_dependency, all_dependencies, dependencies_among, host_body}
-use Rattle.setup_objects.specs.Numbering.{hosts_in_order, services_in_order, names_in_order, configuration}
+use Rattle.setup_objects.specs.Numbering.{index_of_name, numbered_host, numbered_dependency, all_dependencies, dependencies_among}
+use Rattle.setup_objects.specs.Numbering.{hosts_in_order, names_in_order, configuration}
 use Rattle.std.proofs.lemmas.List.Folds.{list_all-map}
 use Rattle.setup_model.proofs.ListLemmas.{list_any-map}
 use Rattle.setup_objects.proofs.BucketLemmas.{bucket, in_buckets, joined_same}
 use Rattle.setup_order.proofs.TestLemmas.{and_first, and_second, and_both, or_second, or_first}
 use Rattle.setup_objects.proofs.DependencyLemmas.{list_of_object}
 use Rattle.setup_objects.proofs.NameLemmas.{HasNames, found, name_leads_back, all_moved}
-use Rattle.check_objects.proofs.OrderLemmas.{hosts_all, services_all}
-use Rattle.setup_objects.proofs.NumberedLemmas.{HostEntry, host_names_are, host_named, known_in_order, full_name_in_order}
-use Rattle.setup_objects.proofs.NumberingLemmas.{map_twice}
+use Rattle.setup_objects.proofs.NumberedLemmas.{host_names_are, host_named, known_in_order, full_name_in_order}
+use Rattle.setup_objects.proofs.NumberLaws.{every_host}
 use Rattle.setup_verification.proofs.FaultlessLemmas.{faultless}
 use Rattle.check_objects.proofs.SetupLemmas.{names_of_document, dependents_within}
 
@@ -65,7 +64,7 @@ host_is_object ds e name known =
     let ns = names_in_order ds.hosts in
     let there : list_any (λ o. bytes_eq name o.name) (map named_host c.hosts) ≡ true =
     list_any-map (λ o. bytes_eq name o.name) named_host c.hosts ∙ sym (list_any-map (bytes_eq name) (λ h. h.name) c.hosts)
-    ∙ ap (λ l. is_known l name) (host_names_are ns hs) ∙ sym (known_in_order ds.hosts host_body hs (hosts_all ds e) name) ∙ known in
+    ∙ ap (λ l. is_known l name) (host_names_are ns hs) ∙ sym (known_in_order ds.hosts name) ∙ known in
     list_any-append (λ o. bytes_eq name o.name) (map named_host c.hosts) (map named_service c.services) ∙ or_first _ _ there
 
 service_is_object : (ds : ParsedSetup) → verification ds ≡ Ok tt → (name : List ℕ) → is_known (full_names ds.services) name ≡ true
@@ -74,8 +73,7 @@ service_is_object ds e name known =
     let c = configuration ds in
     let there : list_any (λ o. bytes_eq name o.name) (map named_service c.services) ≡ true =
     list_any-map (λ o. bytes_eq name o.name) named_service c.services
-    ∙ full_name_in_order ds.services (λ s. s.check) (services_in_order ds.services) (services_all ds e) (names_in_order ds.hosts) name
-    ∙ known in
+    ∙ full_name_in_order ds.services (names_in_order ds.hosts) name ∙ known in
     list_any-append (λ o. bytes_eq name o.name) (map named_host c.hosts) (map named_service c.services) ∙ or_second _ _ there
 
 -- both ends of the dependency are objects
@@ -156,35 +154,31 @@ dependencies_together ds e =
 
 -- ---- parents
 
-parents_named : (c : Configuration) (hs : List HostEntry) → c.hosts ≡ map (numbered_host (map (λ h. h.0) hs)) hs → (ps : List (List ℕ))
-    → list_all (is_known (map (λ h. h.0) hs)) ps ≡ true → map (name_of c) (map (index_of_name (map (λ h. h.0) hs)) ps) ≡ ps
+parents_named : (c : Configuration) (hs : List ParsedHost) → c.hosts ≡ map (numbered_host (names_of hs)) hs → (ps : List (List ℕ))
+    → list_all (is_known (names_of hs)) ps ≡ true → map (name_of c) (map (index_of_name (names_of hs)) ps) ≡ ps
 parents_named c hs are [] h = refl
 parents_named c hs are (p ∷ ps) h =
-    let here = host_named c (map (λ x. x.0) hs) hs are p (and_first _ _ h) in
+    let here = host_named c (names_of hs) hs are p (and_first _ _ h) in
     let more = parents_named c hs are ps (and_second _ _ h) in
     λ i. here i ∷ more i
 
-hosts_named : (c : Configuration) (all : List HostEntry) → c.hosts ≡ map (numbered_host (map (λ h. h.0) all)) all → (hs : List HostEntry)
-    → list_all (λ e. list_all (is_known (map (λ h. h.0) all)) e.1.1) hs ≡ true
-    → map (named_parents c) (map (numbered_host (map (λ h. h.0) all)) hs) ≡ map (λ e. (e.0, e.1.1)) hs
-hosts_named c all are [] h = refl
-hosts_named c all are (e ∷ hs) h =
-    let here = parents_named c all are e.1.1 (and_first _ _ h) in
-    let more = hosts_named c all are hs (and_second _ _ h) in
-    λ i. (e.0, here i) ∷ more i
+hosts_named : (c : Configuration) (all : List ParsedHost) → c.hosts ≡ map (numbered_host (names_of all)) all → (hs : List ParsedHost)
+    → list_all (λ h. list_all (is_known (names_of all)) h.parents) hs ≡ true
+    → map (named_parents c) (map (numbered_host (names_of all)) hs) ≡ map (λ h. (h.name, h.parents)) hs
+hosts_named c all are [] known = refl
+hosts_named c all are (h ∷ hs) known =
+    let here = parents_named c all are h.parents (and_first _ _ known) in
+    let more = hosts_named c all are hs (and_second _ _ known) in
+    λ i. (h.name, here i) ∷ more i
 
 -- the hosts and their parents are the document's
 pub parents_together : (ds : ParsedSetup) → verification ds ≡ Ok tt
     → IsPermutation (map (λ h. (h.name, h.parents)) ds.hosts) (map (named_parents (configuration ds)) (configuration ds).hosts)
 parents_together ds e =
-    let c = configuration ds in
     let hs = hosts_in_order ds.hosts in
-    let agree : is_known (names_of ds.hosts) ≡ is_known (map (λ h. h.0) hs) = λ i name. known_in_order ds.hosts host_body hs (hosts_all ds e) name i in
-    let known : list_all (λ x. list_all (is_known (map (λ h. h.0) hs)) x.1.1) hs ≡ true =
-    all_moved (λ (x : HostEntry). list_all (is_known (map (λ h. h.0) hs)) x.1.1) (map (λ h. (h.name, host_body h)) ds.hosts) hs (hosts_all ds e)
-    (list_all-map (λ (x : HostEntry). list_all (is_known (map (λ h. h.0) hs)) x.1.1) (λ (h : ParsedHost). (h.name, host_body h)) ds.hosts
-    ∙ ap (λ k. list_all (λ h. list_all k h.parents) ds.hosts) (sym agree) ∙ (faultless ds e).parented) in
-    let moved = IsPermutation-map (λ (x : HostEntry). (x.0, x.1.1)) (map (λ h. (h.name, host_body h)) ds.hosts) hs (hosts_all ds e) in
-    subst (IsPermutation (map (λ h. (h.name, h.parents)) ds.hosts)) (sym (hosts_named c hs refl hs known))
-    (subst (λ l. IsPermutation l (map (λ x. (x.0, x.1.1)) hs)) (sym
-    (map_twice (λ (x : HostEntry). (x.0, x.1.1)) (λ (h : ParsedHost). (h.name, host_body h)) ds.hosts)) moved)
+    let agree : is_known (names_of hs) ≡ is_known (names_of ds.hosts) = λ i name. sym (known_in_order ds.hosts name) i in
+    let known : list_all (λ h. list_all (is_known (names_of hs)) h.parents) hs ≡ true =
+    all_moved (λ (h : ParsedHost). list_all (is_known (names_of hs)) h.parents) ds.hosts hs (every_host ds.hosts)
+    (ap (λ k. list_all (λ h. list_all k h.parents) ds.hosts) agree ∙ (faultless ds e).parented) in
+    subst (IsPermutation (map (λ h. (h.name, h.parents)) ds.hosts)) (sym (hosts_named (configuration ds) hs refl hs known))
+    (IsPermutation-map (λ (h : ParsedHost). (h.name, h.parents)) ds.hosts hs (every_host ds.hosts))

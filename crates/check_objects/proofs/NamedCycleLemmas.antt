@@ -1,6 +1,6 @@
 -- Cycles of a document without a fault: the names of their objects, which are all of one sort.
 use Rattle.std.proofs.Common.{◌≡◌, ℕ, zero, suc, ◌+◌, ◌<◌, ◌==◌, true, List, ◌++◌, drop, get_or, map, take, length, String, Global, refl, sym, ap, subst, ◌∙◌, Ok, cond, [], ◌∷◌, arith}
-use Rattle.std.specs.Prelude.{nat_lt, slice_index_or, string_bytes}
+use Rattle.std.specs.Prelude.{nat_lt, slice_index_or}
 use Rattle.std.proofs.lemmas.Bool.{eqb-true}
 use Rattle.std.proofs.lemmas.List.{drop-map, length-append, length-map, map-append, take-map}
 use Rattle.std.proofs.lemmas.Option.{get_or_from_slice_get, unwrap_or-slice_get}

@@ -1,7 +1,7 @@
 -- What a document without a fault gives: few objects, links to hosts, and full names in two parts.
 use Rattle.std.proofs.Common.{◌≡◌, ℕ, ◌+◌, ◌<◌, ◌≤◌, ◌||◌, ◌&&◌, Option, Bool, true, false, cond, List, [], ◌∷◌, map, length, Some}
 use Rattle.std.proofs.Common.{None, bytes_eq, refl, sym, ap, subst, ◌∙◌, Result, Ok, Err, inl, inr, arith}
-use Rattle.std.specs.Prelude.{nat_lt, nat_le, unwrap_or, All}
+use Rattle.std.specs.Prelude.{nat_lt, nat_le, slice_get, unwrap_or, All}
 use Rattle.std.specs.List.{AllByRecursion, list_any, list_all, position_or_len}
 use Rattle.std.specs.List.Sorted.{IsStrictlySortedBy}
 use Rattle.std.proofs.lemmas.Bool.{cases_lt}
@@ -16,7 +16,6 @@ use Rattle.setup_model.specs.declared.options.DelayMethod.TheVariants as method
 use Rattle.setup_model.specs.declared.options.InterleaveFactor.{InterleaveFactor}
 use Rattle.setup_model.specs.declared.options.InterleaveFactor.TheVariants as factor
 use Rattle.setup_model.specs.declared.options.Options.{Options}
-use Rattle.setup_model.specs.declared.member.DefaultValue.{DefaultValue}
 use Rattle.setup_model.specs.declared.member.Kind.TheVariants as kind
 use Rattle.setup_model.specs.Member.{Row, is_between, is_within_limits, limits_of}
 use Rattle.setup_model.specs.Members as members
@@ -34,18 +33,17 @@ use Rattle.setup_verification.specs.Verification as verified
 use Rattle.setup_model.specs.Fault.{RangeFault, out_of_range, host_thresholds, range, service_thresholds}
 use Rattle.setup_model.specs.Place.{host_place, service_place}
 use Rattle.setup_objects.specs.Numbering.{index_of_name, dependencies_among, numbered_host, numbered_service, hosts_in_order, services_in_order, names_in_order}
-use Rattle.setup_objects.specs.Numbering.{configuration_of_objects, configuration, numbered_dependency, all_dependencies, host_body}
+use Rattle.setup_objects.specs.Numbering.{configuration_of_objects, configuration, numbered_dependency, all_dependencies}
 use Rattle.setup_order.proofs.TestLemmas.{both_true, all_weaker}
 use Rattle.std.proofs.lemmas.List.Folds.{list_all-map}
 use Rattle.setup_model.proofs.ListLemmas.{list_any-map}
-use Rattle.check_objects.proofs.OrderLemmas.{hosts_all, services_all, hosts_ascend, services_ascend}
-use Rattle.setup_objects.proofs.NameLemmas.{HasNames, found, all_moved, parted_name}
+use Rattle.setup_objects.proofs.NameLemmas.{HasNames, all_moved, all_passes, found, parted_name}
 use Rattle.setup_objects.proofs.NumberedLemmas.{AreAlike, host_names_are, pairs_are, full_names_are, known_in_order, full_name_in_order, parents_counted}
-use Rattle.setup_objects.proofs.NumberedLemmas.{listed_few, host_end, service_end, ends_alike, both_hold, alike_among}
+use Rattle.setup_objects.proofs.NumberedLemmas.{listed_once, host_end, service_end, ends_alike, both_hold, alike_among}
 use Rattle.setup_objects.proofs.DependencyLemmas.{dependents_below, masters_below, masters_within_lists, length-dependency_lists, list_of_object}
-use Rattle.setup_objects.proofs.NumberLaws.{hosts_counted, services_counted}
+use Rattle.setup_objects.proofs.NumberLaws.{apart_hosts_ascend, apart_services_ascend, every_host, every_service, hosts_counted, services_counted}
 use Rattle.setup_model.proofs.RefusalLemmas.{all_of_each, first_ok, have_known_ends, rest_ok, still_ok}
-use Rattle.setup_verification.proofs.FaultlessLemmas.{IsFaultless, faultless}
+use Rattle.setup_verification.proofs.FaultlessLemmas.{IsFaultless, faultless, once}
 
 -- ---- hosts' names have no semicolon
 
@@ -87,26 +85,25 @@ numbers_below names n e h (t ∷ ts) =
     let here : nat_lt (index_of_name names t) n ≡ true = ap (nat_lt (index_of_name names t)) e
     ∙ number_below names t h in rw (here, numbers_below names n e h ts) refl
 
-hosts_linked : (names : List (List ℕ)) (n : ℕ) → n ≡ length names → 0 < length names → (hs : List (List ℕ × (Object × List (List ℕ))))
+hosts_linked : (names : List (List ℕ)) (n : ℕ) → n ≡ length names → 0 < length names → (hs : List ParsedHost)
     → list_all (λ h. list_all (λ p. nat_lt p n) h.parents) (map (numbered_host names) hs) ≡ true
 hosts_linked names n e h [] = refl
-hosts_linked names n e h (x ∷ hs) = rw (numbers_below names n e h x.1.1, hosts_linked names n e h hs) refl
+hosts_linked names n e h (x ∷ hs) = rw (numbers_below names n e h x.parents, hosts_linked names n e h hs) refl
 
-services_hosted : (names : List (List ℕ)) (n : ℕ) → n ≡ length names → 0 < length names → (ss : List ((List ℕ × List ℕ) × Object))
+services_hosted : (names : List (List ℕ)) (n : ℕ) → n ≡ length names → 0 < length names → (ss : List ParsedService)
     → list_all (λ s. nat_lt s.host n) (map (numbered_service names) ss) ≡ true
 services_hosted names n e h [] = refl
 services_hosted names n e h (x ∷ ss) =
-    let here : nat_lt (index_of_name names x.0.0) n ≡ true = ap (nat_lt (index_of_name names x.0.0)) e
-    ∙ number_below names x.0.0 h in rw (here, services_hosted names n e h ss) refl
+    let here : nat_lt (index_of_name names x.host) n ≡ true = ap (nat_lt (index_of_name names x.host)) e
+    ∙ number_below names x.host h in rw (here, services_hosted names n e h ss) refl
 
-names_length : (hs : List (List ℕ × (Object × List (List ℕ)))) → length (map (numbered_host (map (λ h. h.0) hs)) hs) ≡ length (map (λ h. h.0) hs)
-names_length hs = length-map hs (numbered_host (map (λ h. h.0) hs)) ∙ sym (length-map hs (λ h. h.0))
+names_length : (hs : List ParsedHost) → length (map (numbered_host (names_of hs)) hs) ≡ length (names_of hs)
+names_length hs = length-map hs (numbered_host (names_of hs)) ∙ sym (length-map hs (λ h. h.name))
 
-linked_by : (hs : List (List ℕ × (Object × List (List ℕ))))
-    → list_all (λ h. list_all (λ p. nat_lt p (length (map (numbered_host (map (λ x. x.0) hs)) hs))) h.parents) (map (numbered_host (map (λ x. x.0) hs)) hs)
-    ≡ true
+linked_by : (hs : List ParsedHost)
+    → list_all (λ h. list_all (λ p. nat_lt p (length (map (numbered_host (names_of hs)) hs))) h.parents) (map (numbered_host (names_of hs)) hs) ≡ true
 linked_by [] = refl
-linked_by (x ∷ hs) = hosts_linked (map (λ y. y.0) (x ∷ hs)) _ (names_length (x ∷ hs)) (omega arith) (x ∷ hs)
+linked_by (x ∷ hs) = hosts_linked (names_of (x ∷ hs)) _ (names_length (x ∷ hs)) (omega arith) (x ∷ hs)
 
 -- the parents of the hosts of a document are hosts
 pub hosts_are_linked : (ds : ParsedSetup) → list_all (λ h. list_all (λ p. nat_lt p (length (configuration_of_objects ds).hosts)) h.parents) (configuration_of_objects ds).hosts ≡ true
@@ -141,17 +138,27 @@ allowed_by false w r is e = let refused : Err w ≡ Ok tt = sym is ∙ e in cc
 allowed : (m : Row) (n : ℕ) → verified.within m n ≡ Ok tt → is_within_limits m n ≡ true
 allowed m n e = allowed_by (is_within_limits m n) (out_of_range m n) (verified.within m n) refl e
 
-delay_in_range : (name : List ℕ) (default : Option DefaultValue) (m : DelayMethod)
-    → verified.delay_test (record { name = name; kind = kind.Delay; default = default }) m ≡ Ok tt → IsDelayInRange m
-delay_in_range name default method.NoDelay e = tt
-delay_in_range name default method.Dumb e = tt
-delay_in_range name default method.Smart e = tt
-delay_in_range name default (method.Fixed delay) e = let w = within 0 86400000 delay (allowed (record { name = name; kind = kind.Delay; default = default }) delay e) in w.1
+-- a number, if there is one, is within the limits of its member
+is_allowed : Row → Option ℕ → Bool
+is_allowed m None = true
+is_allowed m (Some n) = is_within_limits m n
 
-factor_in_range : (name : List ℕ) (default : Option DefaultValue) (f : InterleaveFactor)
-    → verified.factor_test (record { name = name; kind = kind.Factor; default = default }) f ≡ Ok tt → IsFactorInRange f
-factor_in_range name default factor.Smart e = tt
-factor_in_range name default (factor.Fixed n) e = within 1 4096 n (allowed (record { name = name; kind = kind.Factor; default = default }) n e)
+number_allowed : (m : Row) (n : Option ℕ) → verified.number_test m n ≡ Ok tt → is_allowed m n ≡ true
+unfolding is_allowed
+number_allowed m None e = refl
+number_allowed m (Some n) e = allowed m n e
+
+delay_in_range : (m : Row) (d : DelayMethod) → m.kind ≡ kind.Delay → is_allowed m (verified.fixed_delay d) ≡ true → IsDelayInRange d
+unfolding is_allowed
+delay_in_range m method.NoDelay is e = tt
+delay_in_range m method.Dumb is e = tt
+delay_in_range m method.Smart is e = tt
+delay_in_range m (method.Fixed delay) is e = let w = within 0 86400000 delay (ap (λ k. is_between (limits_of k) delay) (sym is) ∙ e) in w.1
+
+factor_in_range : (m : Row) (f : InterleaveFactor) → m.kind ≡ kind.Factor → is_allowed m (verified.fixed_factor f) ≡ true → IsFactorInRange f
+unfolding is_allowed
+factor_in_range m factor.Smart is e = tt
+factor_in_range m (factor.Fixed n) is e = within 1 4096 n (ap (λ k. is_between (limits_of k) n) (sym is) ∙ e)
 
 -- both thresholds are percents, and the low one isn't above the high one
 record AreThresholds (low high : ℕ) : Type 0 where
@@ -161,9 +168,6 @@ record AreThresholds (low high : ℕ) : Type 0 where
 
 ordered_by : (wrong : ℕ → ℕ → RangeFault) (low high : ℕ) → verified.order_test wrong low high ≡ Ok tt → low ≤ high
 ordered_by wrong low high e = at_most low high (allowed_by (nat_le low high) (wrong low high) (verified.order_test wrong low high) refl e)
-
-percent : (m : Row) (n : ℕ) → m.kind ≡ kind.Number 0 100 → verified.within m n ≡ Ok tt → n ≤ 100
-percent m n is e = let w = within 0 100 n (ap (λ k. is_between (limits_of k) n) (sym is) ∙ allowed m n e) in w.1
 
 -- the options are within their limits
 record HasOptionsInRange (o : Options) : Type 0 where
@@ -178,57 +182,39 @@ record HasOptionsInRange (o : Options) : Type 0 where
   host_flap : AreThresholds o.low_host_flap_threshold o.high_host_flap_threshold
 
 options_in_range : (o : Options) → verified.option_ranges_test o ≡ Ok tt → HasOptionsInRange o
+unfolding is_allowed
 options_in_range o e =
-    let numbers = first_ok (verified.option_numbers_test o) _ tt e in
-    let after_numbers = rest_ok (verified.option_numbers_test o) _ tt e in
-    let limits = first_ok (verified.thresholds_test o) _ tt after_numbers in
-    let order = rest_ok (verified.thresholds_test o) _ tt after_numbers in
-    let a = verified.within members.interval_length o.interval_length in
-    let b = verified.delay_test members.service_inter_check_delay_method o.service_inter_check_delay_method in
-    let c = verified.within members.max_service_check_spread o.max_service_check_spread in
-    let d = verified.factor_test members.service_interleave_factor o.service_interleave_factor in
-    let f = verified.delay_test members.host_inter_check_delay_method o.host_inter_check_delay_method in
-    let g = verified.within members.max_host_check_spread o.max_host_check_spread in
-    let after_a = rest_ok a _ tt numbers in
-    let after_b = rest_ok b _ tt after_a in
-    let after_c = rest_ok c _ tt after_b in
-    let after_d = rest_ok d _ tt after_c in
-    let after_f = rest_ok f _ tt after_d in
-    let low_service = verified.within members.low_service_flap_threshold o.low_service_flap_threshold in
-    let high_service = verified.within members.high_service_flap_threshold o.high_service_flap_threshold in
-    let low_host = verified.within members.low_host_flap_threshold o.low_host_flap_threshold in
-    let after_low = rest_ok low_service _ tt limits in
-    let after_high = rest_ok high_service _ tt after_low in
+    let test = λ (i : ℕ) (x : Row × Option ℕ). verified.number_test x.0 x.1 in
+    let all = all_of_each test (λ x. is_allowed x.0 x.1) (λ i x. number_allowed x.0 x.1) 0 (verified.option_numbers o)
+    (first_ok (verified.option_numbers_test o) (λ _. verified.threshold_order_test o) tt e) in
+    let order = rest_ok (verified.option_numbers_test o) (λ _. verified.threshold_order_test o) tt e in
+    let at = λ (i : ℕ) (m : Row) (n : Option ℕ) (is : slice_get (verified.option_numbers o) i ≡ Some (m, n)).
+    all_passes (λ x. is_allowed x.0 x.1) (verified.option_numbers o) i (m, n) all is in
     let services = verified.order_test service_thresholds o.low_service_flap_threshold o.high_service_flap_threshold in
-    let concurrent = within 0 1000000 o.max_concurrent_checks (allowed members.max_concurrent_checks o.max_concurrent_checks (rest_ok g _ tt after_f)) in
+    let concurrent = within 0 1000000 o.max_concurrent_checks (at 6 members.max_concurrent_checks (Some o.max_concurrent_checks) refl) in
+    let low_service = within 0 100 o.low_service_flap_threshold (at 7 members.low_service_flap_threshold (Some o.low_service_flap_threshold) refl) in
+    let high_service = within 0 100 o.high_service_flap_threshold (at 8 members.high_service_flap_threshold (Some o.high_service_flap_threshold) refl) in
+    let low_host = within 0 100 o.low_host_flap_threshold (at 9 members.low_host_flap_threshold (Some o.low_host_flap_threshold) refl) in
+    let high_host = within 0 100 o.high_host_flap_threshold (at 10 members.high_host_flap_threshold (Some o.high_host_flap_threshold) refl) in
     record {
-      interval_length = within 1 86400 o.interval_length (allowed members.interval_length o.interval_length (first_ok a _ tt numbers));
-      service_delay =
-          delay_in_range members.service_inter_check_delay_method.name members.service_inter_check_delay_method.default o.service_inter_check_delay_method
-          (first_ok b _ tt after_a);
-      service_spread = within 1 525600 o.max_service_check_spread (allowed members.max_service_check_spread o.max_service_check_spread (first_ok c _ tt after_b));
-      service_factor =
-          factor_in_range members.service_interleave_factor.name members.service_interleave_factor.default o.service_interleave_factor
-          (first_ok d _ tt after_c);
-      host_delay =
-          delay_in_range members.host_inter_check_delay_method.name members.host_inter_check_delay_method.default o.host_inter_check_delay_method
-          (first_ok f _ tt after_d);
-      host_spread = within 1 525600 o.max_host_check_spread (allowed members.max_host_check_spread o.max_host_check_spread (first_ok g _ tt after_f));
+      interval_length = within 1 86400 o.interval_length (at 0 members.interval_length (Some o.interval_length) refl);
+      service_delay = delay_in_range members.service_inter_check_delay_method o.service_inter_check_delay_method refl (at 1 _ _ refl);
+      service_spread = within 1 525600 o.max_service_check_spread (at 2 members.max_service_check_spread (Some o.max_service_check_spread) refl);
+      service_factor = factor_in_range members.service_interleave_factor o.service_interleave_factor refl (at 3 _ _ refl);
+      host_delay = delay_in_range members.host_inter_check_delay_method o.host_inter_check_delay_method refl (at 4 _ _ refl);
+      host_spread = within 1 525600 o.max_host_check_spread (at 5 members.max_host_check_spread (Some o.max_host_check_spread) refl);
       concurrent_checks = concurrent.1;
       service_flap = record {
-        percent_low = percent members.low_service_flap_threshold o.low_service_flap_threshold refl (first_ok low_service _ tt limits);
-        percent_high = percent members.high_service_flap_threshold o.high_service_flap_threshold refl (first_ok high_service _ tt after_low);
+        percent_low = low_service.1;
+        percent_high = high_service.1;
         ordered = ordered_by service_thresholds o.low_service_flap_threshold o.high_service_flap_threshold (first_ok services _ tt order);
       };
       host_flap = record {
-        percent_low = percent members.low_host_flap_threshold o.low_host_flap_threshold refl (first_ok low_host _ tt after_high);
-        percent_high = percent members.high_host_flap_threshold o.high_host_flap_threshold refl (rest_ok low_host _ tt after_high);
+        percent_low = low_host.1;
+        percent_high = high_host.1;
         ordered = ordered_by host_thresholds o.low_host_flap_threshold o.high_host_flap_threshold (rest_ok services _ tt order);
       };
     }
-
-no_least : (n : ℕ) → nat_le 0 n ≡ true
-no_least n = grind (arith, nat_tests)
 
 -- the numbers of a parsed setup that passes are within the limits of a setup's objects
 check_in_range : (c : Object) → verified.check_ranges_test c ≡ Ok tt → is_object_in_range c ≡ true
@@ -253,13 +239,8 @@ objects_in_range ds faults =
     all_of_each verified.service_range_test (λ s. is_object_in_range s.check) (λ i s passed.
     check_in_range s.check (still_ok (range (service_place i)) (verified.check_ranges_test s.check) passed)) 0 ds.services f.service_numbers in
     let ns = names_in_order ds.hosts in
-    let hosts_placed = all_moved (λ x. is_object_in_range x.1.0) (map (λ h. (h.name, host_body h)) ds.hosts) (hosts_in_order ds.hosts) (hosts_all ds faults)
-    (list_all-map (λ x. is_object_in_range x.1.0) (λ (h : ParsedHost). (h.name, host_body h)) ds.hosts
-    ∙ hosts) in
-    let services_placed = all_moved (λ x. is_object_in_range x.1) (map (λ s. (key_of s, s.check)) ds.services) (services_in_order ds.services)
-    (services_all ds faults)
-    (list_all-map (λ x. is_object_in_range x.1) (λ (s : ParsedService). (key_of s, s.check)) ds.services
-    ∙ services) in
+    let hosts_placed = all_moved (λ h. is_object_in_range h.check) ds.hosts (hosts_in_order ds.hosts) (every_host ds.hosts) hosts in
+    let services_placed = all_moved (λ s. is_object_in_range s.check) ds.services (services_in_order ds.services) (every_service ds.services) services in
     let hosts_numbered : list_all (λ o. is_object_in_range o.object) (map named_host (map (numbered_host ns) (hosts_in_order ds.hosts))) ≡ true =
     list_all-map (λ o. is_object_in_range o.object) named_host (map (numbered_host ns) (hosts_in_order ds.hosts))
     ∙ list_all-map (λ h. is_object_in_range h.object) (numbered_host ns) (hosts_in_order ds.hosts) ∙ hosts_placed in
@@ -355,29 +336,24 @@ module _ {L : Type 0} (items : L → List Dependency) (lists : List L) (c : Conf
 
 -- ---- names, in order
 
-services_known : (ds : ParsedSetup) → verification ds ≡ Ok tt → list_all (λ e. is_known (names_in_order ds.hosts) e.0.0) (services_in_order ds.services) ≡ true
+services_known : (ds : ParsedSetup) → verification ds ≡ Ok tt → list_all (λ s. is_known (names_in_order ds.hosts) s.host) (services_in_order ds.services) ≡ true
 services_known ds e =
-    let agree : (λ (s : ParsedService). is_known (names_of ds.hosts) s.host) ≡ (λ s. is_known (names_in_order ds.hosts) s.host) =
-    λ i s. known_in_order ds.hosts host_body (hosts_in_order ds.hosts) (hosts_all ds e) s.host i in
-    all_moved (λ x. is_known (names_in_order ds.hosts) x.0.0) (map (λ s. (key_of s, s.check)) ds.services) (services_in_order ds.services)
-    (services_all ds e)
-    (list_all-map (λ x. is_known (names_in_order ds.hosts) x.0.0) (λ (s : ParsedService). (key_of s, s.check)) ds.services
-    ∙ ap (λ f. list_all f ds.services) (sym agree) ∙ (faultless ds e).known)
+    let agree : (λ (s : ParsedService). is_known (names_in_order ds.hosts) s.host) ≡ (λ s. is_known (names_of ds.hosts) s.host) =
+    λ i s. sym (known_in_order ds.hosts s.host) i in
+    all_moved (λ s. is_known (names_in_order ds.hosts) s.host) ds.services (services_in_order ds.services) (every_service ds.services)
+    (ap (λ f. list_all f ds.services) agree ∙ (faultless ds e).known)
 
-named_in_order : (ds : ParsedSetup) → verification ds ≡ Ok tt → list_all (λ x. is_name x.0) (hosts_in_order ds.hosts) ≡ true
-named_in_order ds e =
-    all_moved (λ x. is_name x.0) (map (λ h. (h.name, host_body h)) ds.hosts) (hosts_in_order ds.hosts) (hosts_all ds e)
-    (list_all-map (λ x. is_name x.0) (λ (h : ParsedHost). (h.name, host_body h)) ds.hosts ∙ (faultless ds e).named)
+named_in_order : (ds : ParsedSetup) → verification ds ≡ Ok tt → list_all (λ h. is_name h.name) (hosts_in_order ds.hosts) ≡ true
+named_in_order ds e = all_moved (λ h. is_name h.name) ds.hosts (hosts_in_order ds.hosts) (every_host ds.hosts) (faultless ds e).named
 
-described_in_order : (ds : ParsedSetup) → verification ds ≡ Ok tt → list_all (λ x. is_name x.0.1) (services_in_order ds.services) ≡ true
+described_in_order : (ds : ParsedSetup) → verification ds ≡ Ok tt → list_all (λ s. is_name s.description) (services_in_order ds.services) ≡ true
 described_in_order ds e =
-    all_moved (λ x. is_name x.0.1) (map (λ s. (key_of s, s.check)) ds.services) (services_in_order ds.services) (services_all ds e)
-    (list_all-map (λ x. is_name x.0.1) (λ (s : ParsedService). (key_of s, s.check)) ds.services ∙ (faultless ds e).described)
+    all_moved (λ s. is_name s.description) ds.services (services_in_order ds.services) (every_service ds.services) (faultless ds e).described
 
 pub parted_hosts : (ds : ParsedSetup) → verification ds ≡ Ok tt → list_all (λ h. is_host_name h.name) (configuration ds).hosts ≡ true
 parted_hosts ds e =
     list_all-map (λ h. is_host_name h.name) (numbered_host (names_in_order ds.hosts)) (hosts_in_order ds.hosts)
-    ∙ all_weaker (λ x. is_name x.0) (λ x. is_host_name x.0) (λ x h. parted_name x.0 h) (hosts_in_order ds.hosts) (named_in_order ds e)
+    ∙ all_weaker (λ x. is_name x.name) (λ x. is_host_name x.name) (λ x h. parted_name x.name h) (hosts_in_order ds.hosts) (named_in_order ds e)
 
 -- both ends of every dependency are of one sort
 same_sorts_of : (ds : ParsedSetup) → verification ds ≡ Ok tt
@@ -393,10 +369,10 @@ same_sorts_of ds e =
     let at = found (λ (s : ParsedService). bytes_eq name (full_name (key_of s))) ds.services
     (sym (list_any-map (bytes_eq name) (λ s. full_name (key_of s)) ds.services) ∙ known) in
     service_end c name (key_of at.item) ((bytes_eq-Decides name (full_name (key_of at.item))).0 at.passes) (parted_hosts ds e)
-    (full_name_in_order ds.services (λ s. s.check) (services_in_order ds.services) (services_all ds e) ns name ∙ known))
+    (full_name_in_order ds.services ns name ∙ known))
     ds.service_dependencies f.service_ends in
     let hosts = ends_alike objects (names_of ds.hosts) n true (λ name known.
-    host_end c name (ap (λ l. is_known l name) (host_names_are ns hs) ∙ sym (known_in_order ds.hosts host_body hs (hosts_all ds e) name) ∙ known))
+    host_end c name (ap (λ l. is_known l name) (host_names_are ns hs) ∙ sym (known_in_order ds.hosts name) ∙ known))
     ds.host_dependencies f.host_ends in
     subst (AllByRecursion (AreAlike n)) (sym (map-append (numbered_dependency objects) ds.service_dependencies ds.host_dependencies))
     (both_hold (AreAlike n) (map (numbered_dependency objects) ds.service_dependencies) (map (numbered_dependency objects) ds.host_dependencies) services hosts)
@@ -416,15 +392,16 @@ names_of_document ds e =
     let c = configuration ds in
     let hs = hosts_in_order ds.hosts in
     let ns = names_in_order ds.hosts in
-    let nonempty : 0 < length ds.hosts → 0 < length ns = λ x. omega (arith, x, hosts_counted ds.hosts, length-map hs (λ h. h.0)) in
+    let nonempty : 0 < length ds.hosts → 0 < length ns = λ x. omega (arith, x, hosts_counted ds.hosts, length-map hs (λ h. h.name)) in
     record {
       host_names = list_all-map (λ x. is_name x.name) (numbered_host ns) hs ∙ named_in_order ds e;
       full_names =
           All-from_recursion (λ x. x.name ≡ full_name (pair_of c x)) c.services
           (full_names_are c ns hs refl (services_in_order ds.services) (services_known ds e));
-      hosts_ascend = subst (IsStrictlySortedBy text_order) (sym (host_names_are ns hs)) (hosts_ascend ds e);
+      hosts_ascend = subst (IsStrictlySortedBy text_order) (sym (host_names_are ns hs)) (apart_hosts_ascend ds.hosts (once ds e).0);
       services_ascend =
-          subst (IsStrictlySortedBy pair_order) (sym (pairs_are c ns hs refl (services_in_order ds.services) (services_known ds e))) (services_ascend ds e);
+          subst (IsStrictlySortedBy pair_order) (sym (pairs_are c ns hs refl (services_in_order ds.services) (services_known ds e)))
+          (apart_services_ascend ds.services (once ds e).1);
       hosts_in_range = hosted_by ds.hosts ds.services (faultless ds e).known ns (length (map (numbered_host ns) hs)) (names_length hs) nonempty;
     }
 
@@ -442,13 +419,13 @@ configuration_is_setup ds e acyclic no_parent_cycle =
     let names = names_of_document ds e in
     record {
       bounded = omega (arith, f.bounded, h, s, length-map hs (numbered_host ns), length-map (services_in_order ds.services) (numbered_service ns));
-      parents_bounded = subst (λ n. n ≤ 16384) (sym (parents_counted ds.hosts (λ h. h.check) hs ns (hosts_all ds e))) f.parents_bounded;
+      parents_bounded = subst (λ n. n ≤ 16384) (sym (parents_counted ds.hosts ns)) f.parents_bounded;
       dependencies_bounded =
           let all = map (numbered_dependency (objects_of (configuration_of_objects ds))) (all_dependencies ds) in
           omega (
             arith,
             f.dependencies_bounded,
-            listed_few (length (objects_of (configuration_of_objects ds))) all,
+            listed_once (length (objects_of (configuration_of_objects ds))) all (dependents_within ds e),
             length-map (all_dependencies ds)
                 (numbered_dependency (objects_of (configuration_of_objects ds))),
             length-append ds.service_dependencies ds.host_dependencies,

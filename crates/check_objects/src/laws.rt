@@ -8,7 +8,7 @@ ghost use Rattle.setup_model.specs.ParsedSetup.{ParsedSetup};
 ghost use Rattle.setup_verification.specs.Verification.{verification};
 ghost use Rattle.setup_model.specs.Keys.{key_of, is_same_key, names_of, first_repeat};
 ghost use Rattle.check_objects.specs.Links.{named_parents, named_dependencies, all_named_dependencies};
-ghost use Rattle.setup_objects.specs.Numbering.{all_dependencies, configuration, host_body, hosts_in_order, services_in_order, smaller_count};
+ghost use Rattle.setup_objects.specs.Numbering.{all_dependencies, configuration, hosts_in_order, services_in_order, smaller_count};
 ghost use Rattle.setup_model.specs.Name.{text_order, pair_order};
 
 /// Numbers follow the order of names.
@@ -20,14 +20,13 @@ ghost use Rattle.setup_model.specs.Name.{text_order, pair_order};
 /// meets both conditions (`apart`).
 pub fn numbers_follow_names()
     ensures hosts { (d : ParsedSetup)
-        → IsPermutation (map (λ h. (h.name, host_body h)) d.hosts) (hosts_in_order d.hosts) }
+        → IsPermutation d.hosts (hosts_in_order d.hosts) }
     ensures names_ascend { (d : ParsedSetup) → first_repeat bytes_eq (names_of d.hosts) ≡ None
-        → IsStrictlySortedBy text_order (map (λ e. e.0) (hosts_in_order d.hosts)) }
+        → IsStrictlySortedBy text_order (names_of (hosts_in_order d.hosts)) }
     ensures services { (d : ParsedSetup)
-        → IsPermutation (map (λ s. (key_of s, s.check)) d.services)
-        (services_in_order d.services) }
+        → IsPermutation d.services (services_in_order d.services) }
     ensures pairs_ascend { (d : ParsedSetup) → first_repeat is_same_key (map key_of d.services) ≡ None
-        → IsStrictlySortedBy pair_order (map (λ e. e.0) (services_in_order d.services)) }
+        → IsStrictlySortedBy pair_order (map key_of (services_in_order d.services)) }
     ensures apart { (d : ParsedSetup) → verification d ≡ Ok tt
         → (first_repeat bytes_eq (names_of d.hosts) ≡ None)
         × (first_repeat is_same_key (map key_of d.services) ≡ None) }

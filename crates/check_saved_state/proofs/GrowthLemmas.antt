@@ -5,26 +5,26 @@ use Rattle.std.specs.Prelude.{is_none, nat_le, slice_get, unwrap_or}
 use Rattle.std.specs.List.{list_all, list_any}
 use Rattle.std.specs.Map.{keys_of}
 use Rattle.std.proofs.lemmas.Bool.{and_parts}
-use Rattle.serde_json.specs.Data.{Data, null, boolean, number, string, array, object, Members, no_members, member}
-use Rattle.serde_json.specs.Find.{as_bool, as_str, get}
+use Rattle.serde_json.specs.Data.{Data}
+use Rattle.serde_json.specs.Find.{as_bool, as_object, as_str}
 use Rattle.serde_json.specs.View.{members_view}
 use Rattle.serde_json.specs.declared.value.Value.{Value}
 use Rattle.setup_reader.specs.JsonTree.{whole_number, ◌>=>◌}
-use Rattle.setup_reader.specs.Shapes.{first_of}
+use Rattle.setup_reader.specs.Shapes.{first_of, keys_in}
 use Rattle.setup_model.proofs.ListLemmas.{list_any-map}
 use Rattle.check_states.specs.Words.{kind_of_word, state_of_word}
 use Rattle.check_saved_state.specs.declared.table.Member.{Member}
-use Rattle.check_saved_state.specs.Reading.{object_in, object_with_letters, optional_run, optional_time, scheduling_in, standing_in, standing_with}
+use Rattle.check_saved_state.specs.Reading.{object_in, object_with_letters, optional_number, optional_run, scheduling_in, standing_in, standing_with}
 use Rattle.check_saved_state.specs.Saved.{SavedObject}
 use Rattle.check_saved_state.specs.Scheduling.{OpenRun}
-use Rattle.check_saved_state.specs.Table.{Added, Row, are_known, as_row, default_by, defaults, has_only_members, is_in, is_known, object_members, value_at, values_in}
-use Rattle.check_saved_state.specs.Words.{are_letters, flapping_of_word}
+use Rattle.check_saved_state.specs.Table.{Added, Row, as_row, default_by, defaults, found_in, has_only_members, is_in, is_known, object_members, value_at, values_in}
+use Rattle.check_saved_state.specs.Words.{flapping_of_word, only_letters}
 
 -- ---- the members of the code's map
 
 pub only_seen : (format : ℕ) (ms : List Member) (es : List (String Global × Value))
     → list_all (λ key. list_any (λ m. is_in format (as_row m) && bytes_eq m.name.now (string_bytes key)) ms) (keys_of es)
-    ≡ are_known format (map as_row ms) (members_view es)
+    ≡ list_all (is_known format (map as_row ms)) (keys_in (members_view es))
 only_seen format ms [] = refl
 only_seen format ms (e ∷ es) =
     ap (λ b. b && list_all (λ key. list_any (λ m. is_in format (as_row m) && bytes_eq m.name.now (string_bytes key)) ms) (keys_of es))
@@ -51,19 +51,11 @@ known_more : (format : ℕ) (ms others : List Row) (key : List ℕ) → AreLater
 known_more format [] others key h = none_later format others key h
 known_more format (m ∷ ms) others key h = ap (λ b. (is_in format m && bytes_eq m.name key) || b) (known_more format ms others key h)
 
-all_known_more : (format : ℕ) (ms others : List Row) (inside : Members) → AreLater format others
-    → are_known format (ms ++ others) inside ≡ are_known format ms inside
-all_known_more format ms others no_members h = refl
-all_known_more format ms others (member k d inside) h = rw (known_more format ms others k h, all_known_more format ms others inside h) refl
-
 only_more : (format : ℕ) (ms others : List Row) (d : Data) → AreLater format others
     → has_only_members format (ms ++ others) d ≡ has_only_members format ms d
-only_more format ms others null h = refl
-only_more format ms others (boolean b) h = refl
-only_more format ms others (number n) h = refl
-only_more format ms others (string s) h = refl
-only_more format ms others (array ds) h = refl
-only_more format ms others (object inside) h = all_known_more format ms others inside h
+only_more format ms others d h =
+    let same : is_known format (ms ++ others) ≡ is_known format ms = λ i key. known_more format ms others key h i in
+    ap (λ known. unwrap_or (option_map (λ inside. list_all known (keys_in inside)) (as_object d)) false) same
 
 value_by : (has : Bool) (v : Data) (found : Option Data) → not (is_none (cond has None (Some v))) ≡ true → first_of (cond has None (Some v)) found ≡ Some v
 value_by true v found h = cc
@@ -78,7 +70,7 @@ later_values : (format : ℕ) (others : List Row) (d : Data) → AreLater format
 later_values format [] d h = refl
 later_values format (m ∷ others) d h =
     let p = and_parts (not (is_in format m)) (list_all (λ x. not (is_in format x)) others) h in
-    rw (default_value format m.added (get m.name d) p.0, later_values format others d p.1) refl
+    rw (default_value format m.added (found_in d m) p.0, later_values format others d p.1) refl
 
 values_more : (format : ℕ) (ms others : List Row) (d : Data) → AreLater format others
     → map (value_at format d) (ms ++ others) ≡ map (value_at format d) ms ++ defaults others
@@ -112,9 +104,9 @@ object_by run_of values =
     (text 4 >=> state_of_word >=> λ last_hard.
     (text 6 >=> flapping_of_word >=> λ flapping.
     Some (standing_with checked state kind attempt last_hard flapping))))))) >=> λ standing.
-    ((text 7 >=> λ letters. (cond (are_letters letters) (Some letters) None)) >=> λ letters.
-    ((value 8 >=> optional_time >=> λ next.
-    (value 9 >=> run_of >=> λ run.
+    (text 7 >=> only_letters >=> λ letters.
+    ((option_and_then optional_number (value 8) >=> λ next.
+    (option_and_then run_of (value 9) >=> λ run.
     (switch 10 >=> λ enabled.
     (switch 11 >=> λ forced.
     Some (record { next = next; run = run; enabled = enabled; forced = forced }))))) >=> λ scheduling.

@@ -1,10 +1,15 @@
 -- The text of what is saved is read as what is saved.
-use Rattle.std.proofs.Common.{◌≡◌, ℕ, suc, ◌^◌, ◌<◌, ◌≤◌, Bool, true, false, List, [], ◌∷◌, Option, Some, None, option_map, IsUtf8, Ok, inl, inr, refl, subst, sym, arith}
-use Rattle.std.specs.Prelude.{codes, slice_get}
+use Rattle.std.proofs.Common.{◌≡◌, ℕ, suc, ◌^◌, ◌<◌, ◌≤◌, Bool, true, false, List, [], ◌∷◌, length, Option, Some, None, option_map, IsUtf8, Ok}
+use Rattle.std.proofs.Common.{inl, inr, refl, subst, sym, ap, ◌∙◌, arith}
+use Rattle.std.specs.Prelude.{codes, nat_lt, slice_get}
 use Rattle.std.specs.Str.{is_utf8}
 use Rattle.std.proofs.lemmas.Bool.{and_parts, leb-true}
+use Rattle.std.proofs.lemmas.Bool.Decides.{nat_tests}
 use Rattle.std.proofs.lemmas.Str.{IsUtf8-append, IsUtf8-from_is_utf8}
 use Rattle.json.proofs.Printed.Utf8.{IsUtf8-are_ascii, are_ascii}
+use Rattle.serde_json.specs.Read.{read}
+use Rattle.setup_reader.proofs.TreeLemmas.{tree_some}
+use Rattle.setup_model.specs.Agreement.{◌>>=◌}
 use Rattle.setup_model.specs.Name.{has_name_bytes}
 use Rattle.check_states.specs.declared.standing.Kind.{Kind}
 use Rattle.check_states.specs.declared.standing.Kind.TheVariants as kind
@@ -12,16 +17,18 @@ use Rattle.check_states.specs.declared.state.State as rules
 use Rattle.check_states.specs.declared.state.State.TheVariants as state
 use Rattle.check_saved_state.specs.Saved.{IsFullName, IsSaved, IsSavedObject, Saved, SavedObject}
 use Rattle.check_saved_state.specs.Scheduling.{OpenRun, is_moment, is_time}
-use Rattle.check_saved_state.specs.Text.{saved_of_text, saved_text}
+use Rattle.check_saved_state.specs.Text.{saved_of_text, saved_of_tree, saved_text}
+use Rattle.check_saved_state.specs.declared.fault.SavedFault.TheVariants as faults
 use Rattle.check_saved_state.specs.Table.{newest_format}
 use Rattle.check_saved_state.specs.Tree.{object_tree, objects_tree, run_tree, saved_tree, time_tree}
+use Rattle.check_saved_state.specs.Verification.{verified_saved}
 use Rattle.check_states.specs.Words.{kind_word, state_word}
 use Rattle.check_saved_state.specs.Words.{flapping_word, letters_of}
 use Rattle.check_saved_state.proofs.PlainLemmas.{ArePlain, IsPlain, read_compact, text_is_utf8}
 use Rattle.check_saved_state.proofs.RangeLemmas.{attempt_by}
 use Rattle.check_saved_state.proofs.SizeLemmas.{text_fits}
-use Rattle.check_saved_state.proofs.TextLemmas.{text_back}
-use Rattle.check_saved_state.proofs.TreeLemmas.{letter_fits, saved_depth}
+use Rattle.check_saved_state.proofs.TreeLemmas.{draft_back, letter_fits, saved_depth}
+use Rattle.check_saved_state.proofs.VerifiedLemmas.{verified_is}
 
 word : (s : rules.State) → IsUtf8 (state_word s)
 word state.Ok = IsUtf8-are_ascii (codes "OK") refl
@@ -65,7 +72,7 @@ run_plain runs (Some r) bounded e numbered =
     let number = numbered r.number refl in
     let n : r.number < 2 ^ 64 = omega arith in
     let s : r.start < 2 ^ 64 = omega arith in
-    ((IsUtf8-are_ascii (codes "number") refl, n, (IsUtf8-are_ascii (codes "start") refl, s, tt)), refl)
+    (refl, refl, (n, (s, tt)))
 
 object_plain : (runs : ℕ) (o : SavedObject) → runs ≤ 2 ^ 60 → IsSavedObject runs o → IsPlain (object_tree o)
 object_plain runs o bounded saved =
@@ -75,66 +82,16 @@ object_plain runs o bounded saved =
     let short = saved.interval in
     let i : o.interval < 2 ^ 64 = omega arith in
     let a : o.standing.attempt < 2 ^ 64 = omega arith in
-    let m : o.max_attempts < 2 ^ 64 = omega arith in (
-      (
-        IsUtf8-are_ascii (codes "attempt") refl,
-        a,
-        (
-          IsUtf8-are_ascii (codes "check_interval") refl,
-          i,
-          (
-            IsUtf8-are_ascii (codes "checked") refl,
-            tt,
-            (
-              IsUtf8-are_ascii (codes "enabled") refl,
-              tt,
-              (
-                IsUtf8-are_ascii (codes "enabled_in_setup") refl,
-                tt,
-                (
-                  IsUtf8-are_ascii (codes "flapping") refl,
-                  flapping_is o.standing.flapping,
-                  (
-                    IsUtf8-are_ascii (codes "forced") refl,
-                    tt,
-                    (
-                      IsUtf8-are_ascii (codes "kind") refl,
-                      kind_is o.standing.kind,
-                      (
-                        IsUtf8-are_ascii (codes "last_hard_state") refl,
-                        word o.standing.last_hard,
-                        (
-                          IsUtf8-are_ascii (codes "max_check_attempts") refl,
-                          m,
-                          (
-                            IsUtf8-are_ascii (codes "name") refl,
-                            name_is o.name saved.name,
-                            (
-                              IsUtf8-are_ascii (codes "next_check") refl,
-                              time_plain o.scheduling.next times.0,
-                              (
-                                IsUtf8-are_ascii (codes "results") refl,
-                                IsUtf8-are_ascii (letters_of o.results) (letters_ascii o.results),
-                                (
-                                  IsUtf8-are_ascii (codes "run") refl,
-                                  run_plain runs o.scheduling.run bounded times.1 saved.numbered,
-                                  (IsUtf8-are_ascii (codes "state") refl, word o.standing.state, tt),
-                                ),
-                              ),
-                            ),
-                          ),
-                        ),
-                      ),
-                    ),
-                  ),
-                ),
-              ),
-            ),
-          ),
-        ),
-      ),
-      refl,
-    )
+    let m : o.max_attempts < 2 ^ 64 = omega arith in
+    let name = name_is o.name saved.name in
+    let next = time_plain o.scheduling.next times.0 in
+    let results = IsUtf8-are_ascii (letters_of o.results) (letters_ascii o.results) in
+    let run = run_plain runs o.scheduling.run bounded times.1 saved.numbered in
+    let f = flapping_is o.standing.flapping in
+    let k = kind_is o.standing.kind in
+    let l = word o.standing.last_hard in
+    let s = word o.standing.state in
+    (refl, refl, (a, (i, (tt, (tt, (tt, (f, (tt, (k, (l, (m, (name, (next, (results, (run, (s, tt))))))))))))))))
 
 objects_plain : (runs : ℕ) (objects : List SavedObject) → runs ≤ 2 ^ 60
     → ((place : ℕ) (o : SavedObject) → slice_get objects place ≡ Some o → IsSavedObject runs o) → ArePlain (objects_tree objects)
@@ -142,28 +99,23 @@ objects_plain runs [] bounded each = tt
 objects_plain runs (o ∷ os) bounded each =
     (object_plain runs o bounded (each 0 o refl), objects_plain runs os bounded (λ place x is. each (suc place) x is))
 
-saved_plain : (saved : Saved) → IsSaved saved → IsPlain (saved_tree saved)
+pub saved_plain : (saved : Saved) → IsSaved saved → IsPlain (saved_tree saved)
 saved_plain saved is =
     let start = is.start in
     let runs = is.runs in
     let s : saved.start < 2 ^ 64 = omega arith in
     let r : saved.runs < 2 ^ 64 = omega arith in
-    let format : newest_format < 2 ^ 64 = omega arith in (
-      (
-        IsUtf8-are_ascii (codes "format") refl,
-        format,
-        (
-          IsUtf8-are_ascii (codes "objects") refl,
-          objects_plain saved.runs saved.objects is.runs is.each,
-          (
-            IsUtf8-are_ascii (codes "runs") refl,
-            r,
-            (IsUtf8-are_ascii (codes "start") refl, s, tt),
-          ),
-        ),
-      ),
-      refl,
-    )
+    let format : newest_format < 2 ^ 64 = omega arith in
+    (refl, refl, (format, (objects_plain saved.runs saved.objects is.runs is.each, (r, (s, tt)))))
+
+tree_back : (saved : Saved) → IsSaved saved → saved_of_tree (saved_tree saved) ≡ Ok saved
+tree_back saved is = ap (λ r. r >>= verified_saved) (draft_back saved is) ∙ verified_is saved is
+
+text_back : (saved : Saved) (text : List ℕ) → IsSaved saved → length text ≤ 16777216 → IsUtf8 text → read text ≡ Some (saved_tree saved)
+    → saved_of_text text ≡ Ok saved
+text_back saved text is bounded utf8 back =
+    let short : nat_lt 16777216 (length text) ≡ false = grind (arith, nat_tests, bounded) in
+    rw short (ap (λ r. r >>= saved_of_tree) (tree_some text (saved_tree saved) faults.NotJson utf8 back) ∙ tree_back saved is)
 
 pub inverse : (saved : Saved) → IsSaved saved → saved_of_text (saved_text saved) ≡ Ok saved
 inverse saved is =

@@ -1,3 +1,4 @@
+pub mod BracketLemmas
 pub mod GrowthLemmas
 pub mod InverseLemmas
 pub mod NameLemmas
@@ -6,6 +7,6 @@ pub mod RepeatLemmas
 pub mod RangeLemmas
 pub mod SavedLemmas
 pub mod SizeLemmas
-pub mod TextLemmas
+pub mod TornLemmas
 pub mod TreeLemmas
 pub mod VerifiedLemmas

@@ -1,8 +1,8 @@
 -- The draft in the tree of a saved state, before its names and numbers are verified. A tree that isn't of this shape is refused.
 use Rattle.std.specs.Prelude.{ℕ, ◌+◌, Bool, false, not, List, [], ◌∷◌, Option}
-use Rattle.std.specs.Prelude.{Some, None, is_some, option_and_then, Result, Ok, Err, ok_or, if◌then◌else◌}
+use Rattle.std.specs.Prelude.{Some, None, is_some, option_and_then, option_map, Result, Ok, Err, ok_or, if◌then◌else◌}
 use Rattle.serde_json.specs.Data.{Data, Items, no_items, item}
-use Rattle.serde_json.specs.Find.{get, as_bool, as_null, as_str, as_array}
+use Rattle.serde_json.specs.Find.{as_bool, as_null, as_str, as_array}
 use Rattle.setup_reader.specs.JsonTree.{whole_number, ◌>=>◌}
 use Rattle.setup_model.specs.Agreement.{◌>>=◌}
 use Rattle.setup_model.specs.Name.{is_host_name}
@@ -14,9 +14,9 @@ use Rattle.check_saved_state.specs.declared.fault.SavedFault.TheVariants as faul
 use Rattle.check_saved_state.specs.Saved.{Saved, SavedObject}
 use Rattle.check_saved_state.specs.Scheduling.{OpenRun, Scheduling}
 use Rattle.check_saved_state.specs.Table as members
-use Rattle.check_saved_state.specs.Table.{Row, has_only_members, is_format, value_at}
+use Rattle.check_saved_state.specs.Table.{Row, found_in, has_only_members, is_format, value_at}
 use Rattle.check_states.specs.Words.{kind_of_word, state_of_word}
-use Rattle.check_saved_state.specs.Words.{are_letters, flapping_of_word, results_of_letters}
+use Rattle.check_saved_state.specs.Words.{flapping_of_word, only_letters, results_of_letters}
 
 -- ---- members, by the table
 
@@ -32,9 +32,15 @@ bool_member format d m = option_and_then as_bool (value_at format d m)
 abbrev pub state_member : ℕ → Data → Row → Option rules.State
 state_member format d m = text_member format d m >=> state_of_word
 
--- null means no time
-abbrev pub optional_time : Data → Option (Option ℕ)
-optional_time d = if is_some (as_null d) then Some None else (whole_number d >=> λ time. Some (Some time))
+abbrev pub list_member : ℕ → Data → Row → Option Items
+list_member format d m = option_and_then as_array (value_at format d m)
+
+-- null means no number
+abbrev pub optional_number : Data → Option (Option ℕ)
+optional_number d = if is_some (as_null d) then Some None else option_map Some (whole_number d)
+
+abbrev pub optional_number_member : ℕ → Data → Row → Option (Option ℕ)
+optional_number_member format d m = option_and_then optional_number (value_at format d m)
 
 abbrev pub run_in_tree : ℕ → Data → Option OpenRun
 run_in_tree format d = if has_only_members format members.run_members d then
@@ -45,7 +51,10 @@ run_in_tree format d = if has_only_members format members.run_members d then
 
 -- null means no run
 abbrev pub optional_run : ℕ → Data → Option (Option OpenRun)
-optional_run format d = if is_some (as_null d) then Some None else (run_in_tree format d >=> λ run. Some (Some run))
+optional_run format d = if is_some (as_null d) then Some None else option_map Some (run_in_tree format d)
+
+abbrev pub optional_run_member : ℕ → Data → Row → Option (Option OpenRun)
+optional_run_member format d m = option_and_then (optional_run format) (value_at format d m)
 
 -- ---- an object
 
@@ -66,15 +75,14 @@ standing_in format d =
 
 unfoldable pub scheduling_in : ℕ → Data → Option Scheduling
 scheduling_in format d =
-    (get members.next_check.name d >=> optional_time >=> λ next.
-    (get members.run.name d >=> optional_run format >=> λ run.
+    (optional_number_member format d members.next_check >=> λ next.
+    (optional_run_member format d members.run >=> λ run.
     (bool_member format d members.enabled >=> λ enabled.
     (bool_member format d members.forced >=> λ forced.
     Some (record { next = next; run = run; enabled = enabled; forced = forced })))))
 
--- the letters of results, if the text has no other bytes
 abbrev pub letters_member : ℕ → Data → Option (List ℕ)
-letters_member format d = text_member format d members.results >=> λ letters. (if are_letters letters then Some letters else None)
+letters_member format d = text_member format d members.results >=> only_letters
 
 -- the object with these values, and with the letters of its results
 abbrev pub object_with_letters : List ℕ → Standing → List ℕ → Scheduling → ℕ → ℕ → Bool → SavedObject
@@ -112,7 +120,7 @@ objects_from format i (item d ds) = do
 
 -- the format that a tree names, if it is a whole number
 abbrev pub format_in : Data → Option ℕ
-format_in d = option_and_then whole_number (get members.format.name d)
+format_in d = option_and_then whole_number (found_in d members.format)
 
 abbrev pub is_other_format : Option ℕ → Bool
 is_other_format None = false
@@ -127,7 +135,7 @@ unfoldable pub draft_of : ℕ → Data → Result Saved SavedFault
 draft_of format d = if has_only_members format members.document_members d then (do
   start ← ok_or (number_member format d members.start) (faults.Shape None)
   runs ← ok_or (number_member format d members.runs) (faults.Shape None)
-  items ← ok_or (option_and_then as_array (get members.objects.name d)) (faults.Shape None)
+  items ← ok_or (list_member format d members.objects) (faults.Shape None)
   objects ← objects_from format 0 items
   Ok (record { start = start; runs = runs; objects = objects }))
     else Err (faults.Shape None)

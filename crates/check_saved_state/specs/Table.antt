@@ -1,14 +1,19 @@
--- The members of a saved state: a table with the format since which each member is there, and how each format that is taken is read by it.
-use Rattle.std.specs.Prelude.{ℕ, ◌+◌, ◌&&◌, Bool, true, false, List, [], ◌∷◌, map, Option, Some, None, is_none, option_map, codes, bytes_eq, nat_le}
-use Rattle.std.specs.Prelude.{if◌then◌else◌}
-use Rattle.std.specs.List.{list_any}
-use Rattle.serde_json.specs.Data.{unsigned, Data, null, boolean, number, string, object, Members, no_members, member}
-use Rattle.serde_json.specs.Find.{get}
-use Rattle.setup_reader.specs.Shapes.{first_of}
+-- The members of a saved state: a table of each member's name, kind and first format, and how each format that is taken is read by it.
+use Rattle.std.specs.Prelude.{ℕ, ◌+◌, ◌&&◌, ◌||◌, Bool, true, false, List, [], ◌∷◌, map, Option, Some, None, is_none, is_some, option_and_then, option_map, unwrap_or}
+use Rattle.std.specs.Prelude.{codes, bytes_eq, nat_le, if◌then◌else◌}
+use Rattle.std.specs.List.{list_all, list_any}
+use Rattle.serde_json.specs.Data.{unsigned, Data, null, boolean, number, string, array, no_items}
+use Rattle.serde_json.specs.Find.{as_array, as_bool, as_null, as_object, as_str, get}
+use Rattle.setup_reader.specs.JsonTree.{whole_number}
+use Rattle.setup_reader.specs.Shapes.{first_of, keys_in}
+use Rattle.check_states.specs.Words.{kind_of_word, state_of_word}
 use Rattle.check_saved_state.specs.declared.table.Addition.{Addition}
 use Rattle.check_saved_state.specs.declared.table.DefaultValue.{DefaultValue}
 use Rattle.check_saved_state.specs.declared.table.DefaultValue.TheVariants as default
 use Rattle.check_saved_state.specs.declared.table.Member.{Member}
+use Rattle.check_saved_state.specs.declared.table.ValueKind.{ValueKind}
+use Rattle.check_saved_state.specs.declared.table.ValueKind.TheVariants as kinds
+use Rattle.check_saved_state.specs.Words.{flapping_of_word, only_letters}
 
 -- ---- formats
 
@@ -27,14 +32,16 @@ pub record Added : Type 0 where
   pub since : ℕ
   pub value : Data
 
--- a member: its name, and how it was added if it wasn't there from the first format on
+-- a member: its name, the kind of its value, and how it was added if it wasn't there from the first format on
 pub record Row : Type 0 where
   pub name : List ℕ
+  pub kind : ValueKind
   pub added : Option Added
 
 -- a default as a value of JSON
 abbrev pub default_tree : DefaultValue → Data
 default_tree default.Nothing = null
+default_tree default.Empty = array no_items
 default_tree (default.Number n) = number (unsigned n)
 default_tree (default.Switch b) = boolean b
 default_tree (default.Text text) = string text.now
@@ -44,11 +51,43 @@ as_added a = record { since = a.since; value = default_tree a.default }
 
 -- a member of the code as a row of the table
 abbrev pub as_row : Member → Row
-as_row m = record { name = m.name.now; added = option_map as_added m.added }
+as_row m = record { name = m.name.now; kind = m.kind; added = option_map as_added m.added }
 
 -- a member that was there from the first format on
-abbrev pub required : List ℕ → Row
-required name = record { name = name; added = None }
+abbrev pub required : List ℕ → ValueKind → Row
+required name kind = record { name = name; kind = kind; added = None }
+
+-- ---- kinds
+
+-- whether a value is a text for which parse has a result
+abbrev pub is_word : {A : Type 0} → (List ℕ → Option A) → Data → Bool
+is_word parse d = is_some (option_and_then parse (as_str d))
+
+-- whether a value is of a kind; the members of a run aren't looked at
+abbrev pub has_kind : ValueKind → Data → Bool
+has_kind kinds.Text d = is_some (as_str d)
+has_kind kinds.Number d = is_some (whole_number d)
+has_kind kinds.NumberOrNull d = is_some (as_null d) || is_some (whole_number d)
+has_kind kinds.Switch d = is_some (as_bool d)
+has_kind kinds.State d = is_word state_of_word d
+has_kind kinds.StateKind d = is_word kind_of_word d
+has_kind kinds.Flapping d = is_word flapping_of_word d
+has_kind kinds.Letters d = is_word only_letters d
+has_kind kinds.RunOrNull d = is_some (as_null d) || is_some (as_object d)
+has_kind kinds.List d = is_some (as_array d)
+
+-- a value, if it is of the kind
+abbrev pub of_kind : ValueKind → Option Data → Option Data
+of_kind k None = None
+of_kind k (Some d) = if has_kind k d then Some d else None
+
+-- whether what stands for a member in a text of an earlier format is of its kind
+abbrev pub is_default_of_kind : ValueKind → Option Added → Bool
+is_default_of_kind k None = true
+is_default_of_kind k (Some a) = has_kind k a.value
+
+abbrev pub have_defaults_of_their_kinds : List Row → Bool
+have_defaults_of_their_kinds ms = list_all (λ m. is_default_of_kind m.kind m.added) ms
 
 -- ---- an object of a text of some format
 
@@ -64,22 +103,21 @@ default_at format m = default_by format m.added
 abbrev pub is_in : ℕ → Row → Bool
 is_in format m = is_none (default_at format m)
 
+-- the value that an object has for a member, if it is of the member's kind
+abbrev pub found_in : Data → Row → Option Data
+found_in d m = of_kind m.kind (get m.name d)
+
 -- the value of a member
 abbrev pub value_at : ℕ → Data → Row → Option Data
-value_at format d m = first_of (default_at format m) (get m.name d)
+value_at format d m = first_of (default_at format m) (found_in d m)
 
 -- whether a text of this format has a member of this name
 abbrev pub is_known : ℕ → List Row → List ℕ → Bool
 is_known format ms key = list_any (λ m. is_in format m && bytes_eq m.name key) ms
 
-abbrev pub are_known : ℕ → List Row → Members → Bool
-are_known format ms no_members = true
-are_known format ms (member k d inside) = is_known format ms k && are_known format ms inside
-
 -- whether a value is an object that has no other members than those of the table in this format
 abbrev pub has_only_members : ℕ → List Row → Data → Bool
-has_only_members format ms (object inside) = are_known format ms inside
-has_only_members format ms d = false
+has_only_members format ms d = unwrap_or (option_map (λ inside. list_all (is_known format ms) (keys_in inside)) (as_object d)) false
 
 -- the values of a table's members in an object of a text of this format, if the object has no other members
 abbrev pub values_in : ℕ → List Row → Data → Option (List (Option Data))
@@ -92,16 +130,16 @@ defaults ms = map (λ m. option_map (λ a. a.value) m.added) ms
 -- ---- the document
 
 abbrev pub format : Row
-format = required (codes "format")
+format = required (codes "format") kinds.Number
 
 abbrev pub start : Row
-start = required (codes "start")
+start = required (codes "start") kinds.Number
 
 abbrev pub runs : Row
-runs = required (codes "runs")
+runs = required (codes "runs") kinds.Number
 
 abbrev pub objects : Row
-objects = required (codes "objects")
+objects = required (codes "objects") kinds.List
 
 abbrev pub document_members : List Row
 document_members = format ∷ start ∷ runs ∷ objects ∷ []
@@ -109,10 +147,10 @@ document_members = format ∷ start ∷ runs ∷ objects ∷ []
 -- ---- a run
 
 abbrev pub run_number : Row
-run_number = required (codes "number")
+run_number = required (codes "number") kinds.Number
 
 abbrev pub run_start : Row
-run_start = required (codes "start")
+run_start = required (codes "start") kinds.Number
 
 abbrev pub run_members : List Row
 run_members = run_number ∷ run_start ∷ []
@@ -120,49 +158,49 @@ run_members = run_number ∷ run_start ∷ []
 -- ---- an object
 
 abbrev pub name : Row
-name = required (codes "name")
+name = required (codes "name") kinds.Text
 
 abbrev pub state : Row
-state = required (codes "state")
+state = required (codes "state") kinds.State
 
 abbrev pub kind : Row
-kind = required (codes "kind")
+kind = required (codes "kind") kinds.StateKind
 
 abbrev pub attempt : Row
-attempt = required (codes "attempt")
+attempt = required (codes "attempt") kinds.Number
 
 abbrev pub last_hard_state : Row
-last_hard_state = required (codes "last_hard_state")
+last_hard_state = required (codes "last_hard_state") kinds.State
 
 abbrev pub checked : Row
-checked = required (codes "checked")
+checked = required (codes "checked") kinds.Switch
 
 abbrev pub flapping : Row
-flapping = required (codes "flapping")
+flapping = required (codes "flapping") kinds.Flapping
 
 abbrev pub results : Row
-results = required (codes "results")
+results = required (codes "results") kinds.Letters
 
 abbrev pub next_check : Row
-next_check = required (codes "next_check")
+next_check = required (codes "next_check") kinds.NumberOrNull
 
 abbrev pub run : Row
-run = required (codes "run")
+run = required (codes "run") kinds.RunOrNull
 
 abbrev pub enabled : Row
-enabled = required (codes "enabled")
+enabled = required (codes "enabled") kinds.Switch
 
 abbrev pub forced : Row
-forced = required (codes "forced")
+forced = required (codes "forced") kinds.Switch
 
 abbrev pub check_interval : Row
-check_interval = required (codes "check_interval")
+check_interval = required (codes "check_interval") kinds.Number
 
 abbrev pub max_check_attempts : Row
-max_check_attempts = required (codes "max_check_attempts")
+max_check_attempts = required (codes "max_check_attempts") kinds.Number
 
 abbrev pub enabled_in_setup : Row
-enabled_in_setup = required (codes "enabled_in_setup")
+enabled_in_setup = required (codes "enabled_in_setup") kinds.Switch
 
 abbrev pub object_members : List Row
 object_members =

@@ -27,6 +27,10 @@ letters_of results = map state_letter results
 abbrev pub are_letters : List ℕ → Bool
 are_letters text = list_all is_letter text
 
+-- the text, if each of its bytes is a letter of a result
+abbrev pub only_letters : List ℕ → Option (List ℕ)
+only_letters text = if are_letters text then Some text else None
+
 -- the results of a host, or of a service, with these letters
 abbrev pub results_of_letters : Bool → List ℕ → List State
 results_of_letters host text = map (state_of_letter host) text

@@ -1,12 +1,14 @@
 //! Laws of the definitions. Each is the contract of a function without parameters and code.
 
-ghost use Rattle.std.specs.Prelude.{◌≡◌, ◌≤◌, ℕ, List, ◌++◌, Ok, length, not, option_map, true};
+ghost use Rattle.std.specs.Prelude.{◌≡◌, ◌≤◌, ℕ, List, ◌∷◌, ◌++◌, Ok, Err, length, not, option_map, true};
 ghost use Rattle.std.specs.List.{list_all};
 ghost use Rattle.serde_json.specs.Data.{Data};
 ghost use Rattle.check_saved_state.specs.declared.saved.TheConstants.{MAX_SAVED_BYTES};
+ghost use Rattle.check_saved_state.specs.declared.fault.SavedFault.TheVariants as SavedFault;
 ghost use Rattle.check_saved_state.specs.Reading.{object_in, optional_run};
 ghost use Rattle.check_saved_state.specs.Saved.{IsSaved, Saved};
-ghost use Rattle.check_saved_state.specs.Table.{Row, defaults, is_in, object_members, values_in};
+ghost use Rattle.check_saved_state.specs.Table.{Row, defaults, document_members, have_defaults_of_their_kinds, is_in};
+ghost use Rattle.check_saved_state.specs.Table.{object_members, run_members, values_in};
 ghost use Rattle.check_saved_state.specs.Text.{saved_of_text, saved_text};
 ghost use Rattle.check_saved_state.specs.Verification.{verified_saved};
 
@@ -29,6 +31,20 @@ pub fn what_is_written_is_read()
     ensures inverse { (saved : Saved) → IsSaved saved → saved_of_text (saved_text saved) ≡ Ok saved }
     ensures again { (text : List ℕ) → (saved : Saved) → saved_of_text text ≡ Ok saved
         → saved_of_text (saved_text saved) ≡ Ok saved }
+{}
+
+/// A text that was cut off is refused. Take the text of a saved state, without its last byte or with more bytes
+/// missing at its end. It isn't JSON, since the object that it opens isn't closed.
+pub fn torn_texts_are_refused()
+    ensures { (saved : Saved) → (front rest : List ℕ) → (next : ℕ) → IsSaved saved
+        → saved_text saved ≡ front ++ next ∷ rest → saved_of_text front ≡ Err SavedFault.NotJson }
+{}
+
+/// Each default of the tables is of its member's kind, in a document, a run and an object.
+pub fn defaults_are_of_their_kinds()
+    ensures document { have_defaults_of_their_kinds document_members ≡ true }
+    ensures run { have_defaults_of_their_kinds run_members ≡ true }
+    ensures object { have_defaults_of_their_kinds object_members ≡ true }
 {}
 
 /// A table can grow. Take an object of a text of some format, and two tables of members, of which the second has

@@ -3,12 +3,15 @@
 ghost use Rattle.std.specs.Prelude.{◌≡◌, ◌&&◌, map, option_map, string_bytes, bytes_eq};
 ghost use Rattle.std.specs.List.{list_all, list_any};
 ghost use Rattle.std.specs.BTreeMap.{keys};
-ghost use Rattle.serde_json.specs.View.{view};
-ghost use Rattle.check_saved_state.specs.Reading.{number_member, state_member, bool_member, text_member};
-ghost use Rattle.check_saved_state.specs.Table.{as_row, has_only_members, is_in};
+ghost use Rattle.serde_json.specs.View.{items_view, view};
+ghost use Rattle.check_saved_state.specs.Reading.{bool_member, list_member, number_member, optional_number, optional_number_member};
+ghost use Rattle.check_saved_state.specs.Reading.{state_member, text_member};
+ghost use Rattle.check_saved_state.specs.Table.{as_row, found_in, has_kind, has_only_members, is_in};
 
-use crate::table::Member;
-use check_states::State;
+use crate::result_letters::only_letters;
+use crate::table::{Member, ValueKind};
+use crate::words::flapping_of_word;
+use check_states::{Kind, State};
 use serde_json::{Map, Value};
 
 /// Whether the value is an object with no other members than those that this format has.
@@ -40,6 +43,36 @@ fn is_known(format: u64, members: &[Member], key: &str) -> bool
         .any(|member| member.is_in(format) && member.name == key)
 }
 
+/// The value that an object has for a member, if it is of the member's kind.
+pub(crate) fn found_in<'v>(value: &'v Value, member: Member) -> Option<&'v Value>
+    ensures { option_map (λ found. view found.now) result ≡ found_in (view value.now) (as_row member) }
+{
+    let found = value.get(member.name)?;
+    if has_kind(found, member.kind) {
+        Some(found)
+    } else {
+        None
+    }
+}
+
+/// Whether a value is of a kind. The members of a run aren't looked at.
+fn has_kind(value: &Value, kind: ValueKind) -> bool
+    ensures { result ≡ has_kind kind (view value.now) }
+{
+    match kind {
+        ValueKind::Text => value.as_str().is_some(),
+        ValueKind::Number => value.as_u64().is_some(),
+        ValueKind::NumberOrNull => value.is_null() || value.as_u64().is_some(),
+        ValueKind::Switch => value.as_bool().is_some(),
+        ValueKind::State => value.as_str().and_then(State::from_word).is_some(),
+        ValueKind::StateKind => value.as_str().and_then(Kind::from_word).is_some(),
+        ValueKind::Flapping => value.as_str().and_then(flapping_of_word).is_some(),
+        ValueKind::Letters => value.as_str().and_then(only_letters).is_some(),
+        ValueKind::RunOrNull => value.is_null() || value.as_object().is_some(),
+        ValueKind::List => value.as_array().is_some(),
+    }
+}
+
 /// The text of a member. None if the member is missing or isn't a text.
 pub(crate) fn text_member<'v>(format: u64, value: &'v Value, member: Member) -> Option<&'v str>
     ensures { option_map (λ text. text.now) result
@@ -47,7 +80,7 @@ pub(crate) fn text_member<'v>(format: u64, value: &'v Value, member: Member) -> 
 {
     match member.default_at(format) {
         Some(default) => default.text(),
-        None => value.get(member.name).and_then(Value::as_str),
+        None => found_in(value, member).and_then(Value::as_str),
     }
 }
 
@@ -57,7 +90,45 @@ pub(crate) fn number_member(format: u64, value: &Value, member: Member) -> Optio
 {
     match member.default_at(format) {
         Some(default) => default.number(),
-        None => value.get(member.name).and_then(Value::as_u64),
+        None => found_in(value, member).and_then(Value::as_u64),
+    }
+}
+
+/// The number of a member. None inside for `null`. None if the member is missing or of another kind.
+pub(crate) fn optional_number_member(
+    format: u64,
+    value: &Value,
+    member: Member,
+) -> Option<Option<u64>>
+    ensures { result ≡ optional_number_member format (view value.now) (as_row member) }
+{
+    match member.default_at(format) {
+        Some(default) => default.optional_number(),
+        None => optional_number(found_in(value, member)?),
+    }
+}
+
+/// A number. None inside for `null`.
+fn optional_number(value: &Value) -> Option<Option<u64>>
+    ensures { result ≡ optional_number (view value.now) }
+{
+    if value.is_null() {
+        return Some(None);
+    }
+    Some(Some(value.as_u64()?))
+}
+
+/// The items of a member. None if the member is missing or isn't a list.
+pub(crate) fn list_member<'v>(format: u64, value: &'v Value, member: Member) -> Option<&'v [Value]>
+    ensures { option_map (λ items. items_view items.now) result
+        ≡ list_member format (view value.now) (as_row member) }
+{
+    match member.default_at(format) {
+        Some(default) => default.list(),
+        None => {
+            let items = found_in(value, member)?.as_array()?;
+            Some(items)
+        }
     }
 }
 
@@ -67,7 +138,7 @@ pub(crate) fn bool_member(format: u64, value: &Value, member: Member) -> Option<
 {
     match member.default_at(format) {
         Some(default) => default.switch(),
-        None => value.get(member.name).and_then(Value::as_bool),
+        None => found_in(value, member).and_then(Value::as_bool),
     }
 }
 

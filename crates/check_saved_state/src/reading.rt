@@ -4,18 +4,21 @@
 ghost use Rattle.std.specs.Prelude.{◌≡◌, option_map};
 ghost use Rattle.serde_json.specs.View.{items_view, view};
 ghost use Rattle.check_saved_state.specs.Reading.{draft_in, draft_of, format_in, format_test, letters_member, object_in, objects_from};
-ghost use Rattle.check_saved_state.specs.Reading.{run_in_tree, optional_run, scheduling_in, standing_in, optional_time};
+ghost use Rattle.check_saved_state.specs.Reading.{run_in_tree, optional_run, optional_run_member, scheduling_in, standing_in};
 ghost use Rattle.check_saved_state.specs.SavedFault.{IsExpectedResult};
-ghost use Rattle.check_saved_state.specs.Table.{is_format};
+ghost use Rattle.check_saved_state.specs.Table.{as_row, is_format};
 
 use crate::draft::{ObjectDraft, SavedDraft, SchedulingDraft, StandingDraft};
 use crate::fault::SavedFault;
-use crate::members::{bool_member, has_only_members, number_member, state_member, text_member};
-use crate::result_letters::are_letters;
+use crate::members::{
+    bool_member, found_in, has_only_members, list_member, number_member, optional_number_member,
+    state_member, text_member,
+};
+use crate::result_letters::only_letters;
 use crate::saved::SavedRun;
 use crate::table::{
     ATTEMPT, CHECK_INTERVAL, CHECKED, DOCUMENT_FORMAT, DOCUMENT_MEMBERS, ENABLED, ENABLED_IN_SETUP,
-    FLAPPING, FORCED, FORMAT, KIND, LAST_HARD_STATE, MAX_CHECK_ATTEMPTS, NAME, NEXT_CHECK,
+    FLAPPING, FORCED, FORMAT, KIND, LAST_HARD_STATE, MAX_CHECK_ATTEMPTS, Member, NAME, NEXT_CHECK,
     OBJECT_MEMBERS, OBJECTS, RESULTS, RUN, RUN_MEMBERS, RUN_NUMBER, RUN_START, RUNS, START, STATE,
 };
 use crate::words::flapping_of_word;
@@ -42,7 +45,7 @@ pub(crate) fn verify_format(tree: &Value) -> Result<(), SavedFault>
 fn format_of(tree: &Value) -> Option<u64>
     ensures { result ≡ format_in (view tree.now) }
 {
-    tree.get(DOCUMENT_FORMAT.name).and_then(Value::as_u64)
+    found_in(tree, DOCUMENT_FORMAT).and_then(Value::as_u64)
 }
 
 /// Whether texts of this format are read.
@@ -75,10 +78,7 @@ fn read_draft_of<'v>(
     }
     let start = number_member(format, tree, START).ok_or(SavedFault::Shape(None))?;
     let runs = number_member(format, tree, RUNS).ok_or(SavedFault::Shape(None))?;
-    let values = tree
-        .get(OBJECTS.name)
-        .and_then(Value::as_array)
-        .ok_or(SavedFault::Shape(None))?;
+    let values = list_member(format, tree, OBJECTS).ok_or(SavedFault::Shape(None))?;
     let objects = read_objects(alloc, format, values)?;
     Ok(SavedDraft {
         start,
@@ -143,12 +143,7 @@ fn read_standing(format: u64, value: &Value) -> Option<StandingDraft>
 fn read_letters<'v>(format: u64, value: &'v Value) -> Option<&'v str>
     ensures { option_map (λ letters. letters.now) result ≡ letters_member format (view value.now) }
 {
-    let letters = text_member(format, value, RESULTS)?;
-    if are_letters(letters) {
-        Some(letters)
-    } else {
-        None
-    }
+    only_letters(text_member(format, value, RESULTS)?)
 }
 
 #[tactic(auto, unfolding(crate::specs::Reading::scheduling_in))]
@@ -156,24 +151,24 @@ fn read_scheduling(format: u64, value: &Value) -> Option<SchedulingDraft>
     ensures { result ≡ scheduling_in format (view value.now) }
 {
     Some(SchedulingDraft {
-        next: read_time(value.get(NEXT_CHECK.name)?)?,
-        run: read_run(format, value.get(RUN.name)?)?,
+        next: optional_number_member(format, value, NEXT_CHECK)?,
+        run: optional_run_member(format, value, RUN)?,
         enabled: bool_member(format, value, ENABLED)?,
         forced: bool_member(format, value, FORCED)?,
     })
 }
 
-/// A time. None for null.
-fn read_time(value: &Value) -> Option<Option<u64>>
-    ensures { result ≡ optional_time (view value.now) }
+/// The run of a member. None inside for `null`. None if the member is missing or of another kind.
+fn optional_run_member(format: u64, value: &Value, member: Member) -> Option<Option<SavedRun>>
+    ensures { result ≡ optional_run_member format (view value.now) (as_row member) }
 {
-    if value.is_null() {
-        return Some(None);
+    match member.default_at(format) {
+        Some(default) => default.optional_run(),
+        None => read_run(format, found_in(value, member)?),
     }
-    Some(Some(value.as_u64()?))
 }
 
-/// A run. None for null.
+/// A run. None inside for `null`.
 fn read_run(format: u64, value: &Value) -> Option<Option<SavedRun>>
     ensures { result ≡ optional_run format (view value.now) }
 {

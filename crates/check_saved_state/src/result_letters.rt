@@ -1,8 +1,8 @@
 //! Results as a text, one letter for each, the oldest first: `o`, `w`, `u` and `c` for a service, `o`, `d`
 //! and `u` for a host.
 
-ghost use Rattle.std.specs.Prelude.{◌≡◌, IfOk, string_bytes};
-ghost use Rattle.check_saved_state.specs.Words.{are_letters, letters_of, results_of_letters};
+ghost use Rattle.std.specs.Prelude.{◌≡◌, IfOk, option_map, string_bytes};
+ghost use Rattle.check_saved_state.specs.Words.{are_letters, letters_of, only_letters, results_of_letters};
 
 use check_states::State;
 use std::alloc::{AllocError, Global};
@@ -18,8 +18,14 @@ pub(crate) fn letters_of(alloc: Global, results: &[State]) -> Result<String, All
     Ok(text)
 }
 
-/// Whether each byte of a text is a letter of a result, of either sort of object.
-pub(crate) fn are_letters(text: &str) -> bool
+/// The text, if each of its bytes is a letter of a result, of either sort of object.
+pub(crate) fn only_letters(text: &str) -> Option<&str>
+    ensures { option_map (λ letters. letters.now) result ≡ only_letters text.now }
+{
+    if are_letters(text) { Some(text) } else { None }
+}
+
+fn are_letters(text: &str) -> bool
     ensures { result ≡ are_letters text.now }
 {
     text.as_bytes().iter().all(|byte| State::is_letter(*byte))

@@ -8,7 +8,7 @@ use Rattle.setup_model.specs.Name.{text_order, pair_order}
 use Rattle.setup_objects.specs.Numbering.{smaller_count}
 use Rattle.setup_objects.proofs.NameLemmas.{item_at, name_of_host}
 use Rattle.setup_objects.proofs.NumberLaws.{texts_total, pairs_total}
-use Rattle.setup_objects.proofs.RankLemmas.{rank_at}
+use Rattle.setup_objects.proofs.SortLemmas.{rank_at}
 
 pub host_counted : (c : Configuration) (n : ℕ) → IsSetup c → n < host_count c → smaller_count text_order (map (λ h. h.name) c.hosts) (name_of c n) ≡ n
 host_counted c n is below =

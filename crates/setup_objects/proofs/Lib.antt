@@ -1,9 +1,8 @@
 pub mod NumberingLemmas
 pub mod ObjectLemmas
 pub mod NameLemmas
-pub mod InsertionLemmas
 pub mod BucketLemmas
-pub mod RankLemmas
+pub mod SortLemmas
 pub mod NumberLaws
 pub mod DependencyLemmas
 pub mod DependencyEndLemmas

@@ -1,145 +1,106 @@
 -- Hosts, services and dependencies by number keep their names, and a dependency is between objects of one sort.
-use Rattle.std.proofs.Common.{◌≡◌, ℕ, zero, suc, ◌+◌, ◌<◌, ◌≤◌, ◌==◌, Bool, true, false, cond, List, [], ◌∷◌, ◌++◌, map, length, Some, None}
+use Rattle.std.proofs.Common.{◌≡◌, ℕ, ◌+◌, ◌==◌, Bool, true, false, cond, List, [], ◌∷◌, ◌++◌, map, length, Some, None}
 use Rattle.std.proofs.Common.{option_map, bytes_eq, refl, sym, ap, ◌∙◌, arith}
 use Rattle.std.specs.Prelude.{nat_lt, unwrap_or, slice_get, sum_by}
-use Rattle.std.specs.List.{AllByRecursion, list_any, list_all, position, filter, range_with_len}
-use Rattle.std.specs.List.Sorted.{IsPermutation}
+use Rattle.std.specs.List.{AllByRecursion, flat_map, list_any, list_all, position, filter, range_with_len}
 use Rattle.std.proofs.lemmas.Bool.{eqb-true}
 use Rattle.std.proofs.lemmas.Bool.Decides.{nat_tests}
-use Rattle.std.proofs.lemmas.List.{length-map}
-use Rattle.std.proofs.lemmas.List.Sorted.{IsPermutation-map, list_any-IsPermutation, sum_by-IsPermutation}
+use Rattle.std.proofs.lemmas.List.{length-append, length-map}
+use Rattle.std.proofs.lemmas.List.Sorted.{IsPermutation-map, length_permutation, list_any-IsPermutation, sum_by-IsPermutation}
 use Rattle.std.proofs.lemmas.List.Sums.{sum_by-cons}
 use Rattle.std.proofs.lemmas.Option.{slice_get-map}
 use Rattle.std.proofs.lemmas.Slice.Eq.{bytes_eq-Decides}
 use Rattle.setup_model.specs.declared.dependency.Dependency.{Dependency}
-use Rattle.setup_model.specs.declared.parsed_setup.Object.{Object}
 use Rattle.setup_objects.specs.Configuration.{Configuration, Host, Service, NamedObject, named_host, named_service, host_count, number_by_name, name_of}
 use Rattle.setup_objects.specs.Configuration.{pair_of}
 use Rattle.setup_model.specs.Name.{full_name, is_host_name}
 use Rattle.setup_model.specs.ParsedSetup.{ParsedHost, ParsedService, ParsedDependency}
 use Rattle.setup_model.specs.Ends.{full_names, has_known_ends, is_known}
 use Rattle.setup_model.specs.Keys.{names_of, key_of}
-use Rattle.setup_objects.specs.Numbering.{index_of_name, numbered_host, numbered_service, numbered_dependency, dependencies_among, dependency_lists}
+use Rattle.setup_objects.specs.Numbering.{dependencies_among, dependency_lists, hosts_in_order, index_of_name, names_in_order, numbered_dependency, numbered_host}
+use Rattle.setup_objects.specs.Numbering.{numbered_service, services_in_order}
 use Rattle.setup_model.proofs.ListLemmas.{list_any-map, position-map, sum_by-map, position-front, position-back}
-use Rattle.setup_objects.proofs.NumberingLemmas.{map_twice}
+use Rattle.setup_objects.proofs.BucketLemmas.{bucket, buckets, in_buckets}
+use Rattle.setup_objects.proofs.NumberLaws.{every_host, every_service}
 use Rattle.setup_order.proofs.TestLemmas.{and_first, and_second}
 use Rattle.setup_objects.proofs.NameLemmas.{found, nowhere, no_host_has, name_of_host}
 
--- what is kept of a host, and of a service
-abbrev pub HostEntry : Type 0
-HostEntry = List ℕ × (Object × List (List ℕ))
-
-abbrev pub ServiceEntry : Type 0
-ServiceEntry = (List ℕ × List ℕ) × Object
-
-pub host_names_are : (ns : List (List ℕ)) (hs : List HostEntry) → map (λ h. h.name) (map (numbered_host ns) hs) ≡ map (λ h. h.0) hs
+pub host_names_are : (ns : List (List ℕ)) (hs : List ParsedHost) → map (λ h. h.name) (map (numbered_host ns) hs) ≡ names_of hs
 host_names_are ns [] = refl
-host_names_are ns (h ∷ hs) = ap (λ l. h.0 ∷ l) (host_names_are ns hs)
+host_names_are ns (h ∷ hs) = ap (λ l. h.name ∷ l) (host_names_are ns hs)
 
 -- ---- services and their hosts
 
-module _ (c : Configuration) (ns : List (List ℕ)) (hs : List HostEntry) (are : c.hosts ≡ map (numbered_host ns) hs) where
+module _ (c : Configuration) (ns : List (List ℕ)) (hs : List ParsedHost) (are : c.hosts ≡ map (numbered_host ns) hs) where
   -- the host with the number of a name has that name
-  pub host_named : (name : List ℕ) → is_known (map (λ h. h.0) hs) name ≡ true → name_of c (index_of_name (map (λ h. h.0) hs) name) ≡ name
+  pub host_named : (name : List ℕ) → is_known (names_of hs) name ≡ true → name_of c (index_of_name (names_of hs) name) ≡ name
   host_named name known =
-      let f = found (λ (h : HostEntry). bytes_eq name h.0) hs (sym (list_any-map (bytes_eq name) (λ h. h.0) hs) ∙ known) in
-      let number : index_of_name (map (λ h. h.0) hs) name ≡ f.index = ap (λ o. unwrap_or o 0) (position-map (bytes_eq name) (λ h. h.0) hs ∙ f.place) in
+      let f = found (λ (h : ParsedHost). bytes_eq name h.name) hs (sym (list_any-map (bytes_eq name) (λ h. h.name) hs) ∙ known) in
+      let number : index_of_name (names_of hs) name ≡ f.index = ap (λ o. unwrap_or o 0) (position-map (bytes_eq name) (λ h. h.name) hs ∙ f.place) in
       let at : slice_get c.hosts f.index ≡ Some (numbered_host ns f.item) = ap
       (λ l. slice_get l f.index) are ∙ slice_get-map (numbered_host ns) hs f.index ∙ ap (option_map (numbered_host ns)) f.at in
-      ap (name_of c) number ∙ name_of_host c f.index (numbered_host ns f.item) at ∙ sym ((bytes_eq-Decides name f.item.0).0 f.passes)
+      ap (name_of c) number ∙ name_of_host c f.index (numbered_host ns f.item) at ∙ sym ((bytes_eq-Decides name f.item.name).0 f.passes)
 
-  pub pairs_are : (ss : List ServiceEntry) → list_all (λ e. is_known (map (λ h. h.0) hs) e.0.0) ss ≡ true
-      → map (pair_of c) (map (numbered_service (map (λ h. h.0) hs)) ss) ≡ map (λ e. e.0) ss
+  pub pairs_are : (ss : List ParsedService) → list_all (λ s. is_known (names_of hs) s.host) ss ≡ true
+      → map (pair_of c) (map (numbered_service (names_of hs)) ss) ≡ map key_of ss
   pairs_are [] known = refl
-  pairs_are (e ∷ ss) known =
-      let host = host_named e.0.0 (and_first _ _ known) in
+  pairs_are (s ∷ ss) known =
+      let host = host_named s.host (and_first _ _ known) in
       let more = pairs_are ss (and_second _ _ known) in
-      λ i. (host i, e.0.1) ∷ more i
+      λ i. (host i, s.description) ∷ more i
 
-  pub full_names_are : (ss : List ServiceEntry) → list_all (λ e. is_known (map (λ h. h.0) hs) e.0.0) ss ≡ true
-      → AllByRecursion (λ s. s.name ≡ full_name (pair_of c s)) (map (numbered_service (map (λ h. h.0) hs)) ss)
+  pub full_names_are : (ss : List ParsedService) → list_all (λ s. is_known (names_of hs) s.host) ss ≡ true
+      → AllByRecursion (λ s. s.name ≡ full_name (pair_of c s)) (map (numbered_service (names_of hs)) ss)
   full_names_are [] known = tt
-  full_names_are (e ∷ ss) known =
-      let host = host_named e.0.0 (and_first _ _ known) in
-      ((λ i. full_name (sym host i, e.0.1)), full_names_are ss (and_second _ _ known))
+  full_names_are (s ∷ ss) known =
+      let host = host_named s.host (and_first _ _ known) in
+      ((λ i. full_name (sym host i, s.description)), full_names_are ss (and_second _ _ known))
 
 -- ---- the names of a document among those in order
 
-module _ (hosts : List ParsedHost) (body : ParsedHost → Object × List (List ℕ)) (hs : List HostEntry)
-    (moved : IsPermutation (map (λ h. (h.name, body h)) hosts) hs) where
-  -- a name is a host's of the document where it is one's of those in order
-  pub known_in_order : (name : List ℕ) → is_known (names_of hosts) name ≡ is_known (map (λ h. h.0) hs) name
-  known_in_order name =
-      ap (list_any (bytes_eq name)) (map_twice (λ (e : HostEntry). e.0) (λ (h : ParsedHost). (h.name, body h)) hosts)
-      ∙ list_any-IsPermutation (bytes_eq name) (map (λ e. e.0) (map (λ h. (h.name, body h)) hosts)) (map (λ e. e.0) hs)
-      (IsPermutation-map (λ (e : HostEntry). e.0) (map (λ h. (h.name, body h)) hosts) hs moved)
+-- a name is a host's of the document where it is one's of those in order
+pub known_in_order : (hosts : List ParsedHost) (name : List ℕ) → is_known (names_of hosts) name ≡ is_known (names_in_order hosts) name
+known_in_order hosts name =
+    list_any-IsPermutation (bytes_eq name) (names_of hosts) (names_in_order hosts)
+    (IsPermutation-map (λ (h : ParsedHost). h.name) hosts (hosts_in_order hosts) (every_host hosts))
 
-module _ (services : List ParsedService) (body : ParsedService → Object) (ss : List ServiceEntry)
-    (moved : IsPermutation (map (λ s. (key_of s, body s)) services) ss) where
-  -- a full name is a service's of those in order where it is one's of the document
-  pub full_name_in_order : (ns : List (List ℕ)) (name : List ℕ)
-      → list_any (λ s. bytes_eq name s.name) (map (numbered_service ns) ss) ≡ is_known (full_names services) name
-  full_name_in_order ns name =
-      list_any-map (λ s. bytes_eq name s.name) (numbered_service ns) ss
-      ∙ sym (list_any-IsPermutation (λ (e : ServiceEntry). bytes_eq name (full_name e.0)) (map (λ s. (key_of s, body s)) services) ss moved)
-      ∙ list_any-map (λ (e : ServiceEntry). bytes_eq name (full_name e.0)) (λ (s : ParsedService). (key_of s, body s)) services
-      ∙ sym (list_any-map (bytes_eq name) (λ s. full_name (key_of s)) services)
+-- a full name is a service's of those in order where it is one's of the document
+pub full_name_in_order : (services : List ParsedService) (ns : List (List ℕ)) (name : List ℕ)
+    → list_any (λ s. bytes_eq name s.name) (map (numbered_service ns) (services_in_order services)) ≡ is_known (full_names services) name
+full_name_in_order services ns name =
+    list_any-map (λ s. bytes_eq name s.name) (numbered_service ns) (services_in_order services)
+    ∙ sym (list_any-IsPermutation (λ (s : ParsedService). bytes_eq name (full_name (key_of s))) services (services_in_order services) (every_service services))
+    ∙ sym (list_any-map (bytes_eq name) (λ s. full_name (key_of s)) services)
 
 -- ---- counts
 
 -- as many parents by number as by name
-pub parents_counted : (hosts : List ParsedHost) (object : ParsedHost → Object) (hs : List HostEntry) (ns : List (List ℕ))
-    → IsPermutation (map (λ h. (h.name, (object h, h.parents))) hosts) hs
-    → sum_by (λ h. length h.parents) (map (numbered_host ns) hs) ≡ sum_by (λ h. length h.parents) hosts
-parents_counted hosts object hs ns moved =
-    let sizes : (λ (e : HostEntry). length (map (index_of_name ns) e.1.1)) ≡ (λ e. length e.1.1) = λ i e. length-map e.1.1 (index_of_name ns) i in
-    sum_by-map (λ h. length h.parents) (numbered_host ns) hs ∙ ap (λ f. sum_by f hs) sizes
-    ∙ sum_by-IsPermutation (λ (e : HostEntry). length e.1.1) (map (λ h. (h.name, (object h, h.parents))) hosts) hs moved
-    ∙ sum_by-map (λ (e : HostEntry). length e.1.1) (λ (h : ParsedHost). (h.name, (object h, h.parents))) hosts
+pub parents_counted : (hosts : List ParsedHost) (ns : List (List ℕ))
+    → sum_by (λ h. length h.parents) (map (numbered_host ns) (hosts_in_order hosts)) ≡ sum_by (λ h. length h.parents) hosts
+parents_counted hosts ns =
+    let sizes : (λ (h : ParsedHost). length (map (index_of_name ns) h.parents)) ≡ (λ h. length h.parents) = λ i h. length-map h.parents (index_of_name ns) i in
+    sum_by-map (λ h. length h.parents) (numbered_host ns) (hosts_in_order hosts) ∙ ap (λ f. sum_by f (hosts_in_order hosts)) sizes
+    ∙ sum_by-IsPermutation (λ (h : ParsedHost). length h.parents) hosts (hosts_in_order hosts) (every_host hosts)
 
--- how many of these dependencies are in the lists of these objects
-abbrev pub listed_from : ℕ → ℕ → List (ℕ × Dependency) → ℕ
-listed_from a count ds = sum_by (λ l. length l) (map (dependencies_among ds) (range_with_len a count))
+lists_joined : (ds : List (ℕ × Dependency)) (ns : List ℕ)
+    → sum_by (λ l. length l) (map (dependencies_among ds) ns) ≡ length (flat_map (bucket (λ d. d.0) ds) ns)
+lists_joined ds [] = refl
+lists_joined ds (n ∷ ns) =
+    let here = bucket (λ d. d.0) ds n in
+    omega (
+      arith,
+      sum_by-cons (λ l. length l) (dependencies_among ds n) (map (dependencies_among ds) ns),
+      length-map here (λ d. d.1),
+      lists_joined ds ns,
+      length-append here (flat_map (bucket (λ d. d.0) ds) ns),
+    )
 
-listed_step : (a count : ℕ) (ds : List (ℕ × Dependency)) → listed_from a (suc count) ds ≡ length (dependencies_among ds a) + listed_from (a + 1) count ds
-listed_step a count ds = sum_by-cons (λ l. length l) (dependencies_among ds a) (map (dependencies_among ds) (range_with_len (a + 1) count))
-
-among_other : (d : ℕ × Dependency) (ds : List (ℕ × Dependency)) (object : ℕ) (b : Bool) → (d.0 == object) ≡ b → b ≡ false
-    → dependencies_among (d ∷ ds) object ≡ dependencies_among ds object
-among_other d ds object b e f = rw (e ∙ f) refl
-
-among_same : (d : ℕ × Dependency) (ds : List (ℕ × Dependency)) (object : ℕ) → (d.0 == object) ≡ true
-    → length (dependencies_among (d ∷ ds) object) ≡ 1 + length (dependencies_among ds object)
-among_same d ds object e = rw e (omega arith)
-
-passed_by : (d : ℕ × Dependency) (ds : List (ℕ × Dependency)) (a count : ℕ) → d.0 < a → listed_from a count (d ∷ ds) ≡ listed_from a count ds
-passed_by d ds a zero h = refl
-passed_by d ds a (suc count) h =
-    let other : (d.0 == a) ≡ false = grind (arith, nat_tests, h) in
-    listed_step a count (d ∷ ds) ∙ ap (λ l. length l + listed_from (a + 1) count (d ∷ ds)) (among_other d ds a false other refl)
-    ∙ ap (λ n. length (dependencies_among ds a) + n) (passed_by d ds (a + 1) count (omega (arith, h))) ∙ sym (listed_step a count ds)
-
-listed_once_by : (d : ℕ × Dependency) (ds : List (ℕ × Dependency)) (a count : ℕ) (b : Bool) → (d.0 == a) ≡ b
-    → listed_from (a + 1) count (d ∷ ds) ≤ 1 + listed_from (a + 1) count ds → listed_from a (suc count) (d ∷ ds) ≤ 1 + listed_from a (suc count) ds
-listed_once_by d ds a count true e more =
-    let below : d.0 < a + 1 = grind (arith, nat_tests, e) in
-    omega (arith, listed_step a count (d ∷ ds), listed_step a count ds, among_same d ds a e, passed_by d ds (a + 1) count below)
-listed_once_by d ds a count false e more =
-    omega (arith, more, listed_step a count (d ∷ ds), listed_step a count ds, ap (λ l. length l) (among_other d ds a false e refl))
-
--- a dependency is listed at most once
-listed_once : (d : ℕ × Dependency) (ds : List (ℕ × Dependency)) (a count : ℕ) → listed_from a count (d ∷ ds) ≤ 1 + listed_from a count ds
-listed_once d ds a zero = omega arith
-listed_once d ds a (suc count) = listed_once_by d ds a count (d.0 == a) refl (listed_once d ds (a + 1) count)
-
-none_listed : (a count : ℕ) → listed_from a count [] ≡ 0
-none_listed a zero = refl
-none_listed a (suc count) = omega (arith, listed_step a count [], none_listed (a + 1) count)
-
--- no dependency is listed twice
-pub listed_few : (count : ℕ) (ds : List (ℕ × Dependency)) → sum_by (λ l. length l) (dependency_lists count ds) ≤ length ds
-listed_few count [] = omega (arith, none_listed 0 count)
-listed_few count (d ∷ ds) = omega (arith, listed_once d ds 0 count, listed_few count ds)
+-- each dependency is listed once
+pub listed_once : (count : ℕ) (ds : List (ℕ × Dependency)) → list_all (λ d. nat_lt d.0 count) ds ≡ true
+    → sum_by (λ l. length l) (dependency_lists count ds) ≡ length ds
+listed_once count ds below =
+    lists_joined ds (range_with_len 0 count)
+    ∙ length_permutation ds (buckets (λ d. d.0) ds 0 count) (in_buckets (λ d. d.0) count ds below)
 
 -- ---- both ends of a dependency
 

@@ -1,21 +1,10 @@
 -- Entries of the code's maps, as contracts see them.
 use Rattle.std.specs.Prelude.{ℕ, ◌==◌, List, [], ◌∷◌, ◌++◌, map, String, string_bytes, if◌then◌else◌}
-use Rattle.std.specs.Borrow.{Bor}
 use Rattle.std.specs.declared.alloc.Global.{Global}
-use Rattle.serde_json.specs.declared.value.Value.{Value}
 use Rattle.setup_objects.specs.declared.object_index.Host.{Host}
 use Rattle.setup_objects.specs.declared.object_index.Service.{Service}
 use Rattle.setup_model.specs.declared.parsed_setup.Object.{Object}
 use Rattle.setup_objects.specs.Configuration as spec
-use Rattle.setup_model.specs.Text.{text}
-
--- a host as it is stored under its name
-abbrev pub sorted_host : Bor (List ℕ) × (Object × Bor (List Value)) → List ℕ × (Object × List (List ℕ))
-sorted_host e = (e.0.now, (e.1.0, map text e.1.1.now))
-
--- a service as it is stored under its host's name and its description
-abbrev pub sorted_service : (Bor (List ℕ) × Bor (List ℕ)) × Object → (List ℕ × List ℕ) × Object
-sorted_service e = ((e.0.0.now, e.0.1.now), e.1)
 
 -- the text after the first semicolon of a full name: the code stores a service's description only there
 abbrev pub description_in : List ℕ → List ℕ

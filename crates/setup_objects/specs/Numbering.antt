@@ -1,41 +1,38 @@
 -- The numbers of objects. Hosts come first, in the order of their names' bytes; then services, in the order of their hosts' names and then of their
 -- descriptions.
-use Rattle.std.specs.Prelude.{ℕ, ◌+◌, ◌==◌, List, [], ◌++◌, map, position, bytes_eq, unwrap_or, length}
-use Rattle.std.specs.List.{count_by, filter, flat_map, range_with_len}
+use Rattle.std.specs.Prelude.{ℕ, ◌+◌, ◌==◌, List, [], ◌∷◌, ◌++◌, map, position, bytes_eq, unwrap_or, length, if◌then◌else◌}
+use Rattle.std.specs.List.{count_by, filter, range_with_len}
 use Rattle.std.specs.declared.cmp.Ordering.{Ordering}
 use Rattle.std.specs.Ordering.{is_lt}
 use Rattle.setup_model.specs.declared.dependency.Dependency.{Dependency}
-use Rattle.setup_model.specs.declared.parsed_setup.Object.{Object}
 use Rattle.setup_objects.specs.Configuration.{NamedObject, Host, Service, Configuration, objects_of, number_among}
 use Rattle.setup_model.specs.Name.{full_name, text_order, pair_order}
 use Rattle.setup_model.specs.ParsedSetup.{ParsedHost, ParsedService, ParsedDependency, ParsedSetup}
-use Rattle.setup_model.specs.Keys.{key_of}
+use Rattle.setup_model.specs.Keys.{key_of, names_of}
 
 -- ---- the order
+
+-- an item in its place in a list that ascends: before the first item whose key isn't smaller
+abbrev pub put_in_order : {A K : Type 0} → (K → K → Ordering) → (A → K) → A → List A → List A
+put_in_order order key x [] = x ∷ []
+put_in_order order key x (y ∷ ys) = if is_lt (order (key y) (key x)) then y ∷ put_in_order order key x ys else x ∷ y ∷ ys
+
+-- The items in the order of their keys. `numbers_follow_names` states the result: all items, in ascending order if no two keys are equal.
+abbrev pub in_order : {A K : Type 0} → (K → K → Ordering) → (A → K) → List A → List A
+in_order order key [] = []
+in_order order key (x ∷ xs) = put_in_order order key x (in_order order key xs)
+
+-- the hosts by their names
+abbrev pub hosts_in_order : List ParsedHost → List ParsedHost
+hosts_in_order hosts = in_order text_order (λ h. h.name) hosts
+
+-- the services by their hosts' names and then by their descriptions
+abbrev pub services_in_order : List ParsedService → List ParsedService
+services_in_order services = in_order pair_order key_of services
 
 -- the number of these keys that are smaller
 abbrev pub smaller_count : {K : Type 0} → (K → K → Ordering) → List K → K → ℕ
 smaller_count order keys key = count_by (λ k. is_lt (order k key)) keys
-
--- the items at this place, each as its key and its value: the place is the number of keys that are smaller
-abbrev pub entries_at_rank : {K V A : Type 0} → (K → K → Ordering) → (A → K) → (A → V) → List A → ℕ → List (K × V)
-entries_at_rank order key value xs n = map (λ x. (key x, value x)) (filter (λ x. smaller_count order (map key xs) (key x) == n) xs)
-
--- The items by their places. `numbers_follow_names` states the result: all items, in ascending order if no two keys are equal.
-abbrev pub sorted_entries : {K V A : Type 0} → (K → K → Ordering) → (A → K) → (A → V) → List A → List (K × V)
-sorted_entries order key value xs = flat_map (entries_at_rank order key value xs) (range_with_len 0 (length xs))
-
--- a host as it is stored under its name: the object, and its parents' names
-abbrev pub host_body : ParsedHost → Object × List (List ℕ)
-host_body h = (h.check, h.parents)
-
--- the hosts by name
-abbrev pub hosts_in_order : List ParsedHost → List (List ℕ × (Object × List (List ℕ)))
-hosts_in_order hosts = sorted_entries text_order (λ h. h.name) host_body hosts
-
--- the services by host and description
-abbrev pub services_in_order : List ParsedService → List ((List ℕ × List ℕ) × Object)
-services_in_order services = sorted_entries pair_order key_of (λ s. s.check) services
 
 -- ---- the numbers
 
@@ -44,16 +41,16 @@ abbrev pub index_of_name : List (List ℕ) → List ℕ → ℕ
 index_of_name names name = unwrap_or (position (bytes_eq name) names) 0
 
 -- a host with its parents by number
-abbrev pub numbered_host : List (List ℕ) → List ℕ × (Object × List (List ℕ)) → Host
-numbered_host names h = record { name = h.0; object = h.1.0; parents = map (index_of_name names) h.1.1 }
+abbrev pub numbered_host : List (List ℕ) → ParsedHost → Host
+numbered_host names h = record { name = h.name; object = h.check; parents = map (index_of_name names) h.parents }
 
 -- a service with its host by number
-abbrev pub numbered_service : List (List ℕ) → (List ℕ × List ℕ) × Object → Service
-numbered_service names s = record { name = full_name s.0; description = s.0.1; object = s.1; host = index_of_name names s.0.0 }
+abbrev pub numbered_service : List (List ℕ) → ParsedService → Service
+numbered_service names s = record { name = full_name (key_of s); description = s.description; object = s.check; host = index_of_name names s.host }
 
 -- the names of hosts in order
 abbrev pub names_in_order : List ParsedHost → List (List ℕ)
-names_in_order hosts = map (λ h. h.0) (hosts_in_order hosts)
+names_in_order hosts = names_of (hosts_in_order hosts)
 
 -- the hosts and services of a parsed setup without a fault, by number
 abbrev pub configuration_of_objects : ParsedSetup → Configuration

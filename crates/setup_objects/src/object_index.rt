@@ -3,12 +3,13 @@
 
 ghost use Rattle.std.specs.Prelude.{◌≡◌, ◌≤◌, ◌<◌, length, map, bytes_eq, IfOk, OnOk, None, true, false, [], ◌∷◌, ◌++◌, string_bytes};
 ghost use Rattle.std.specs.List.{list_all, list_any};
+ghost use Rattle.std.specs.List.Sorted.{IsStrictlySortedBy};
 ghost use Rattle.setup_objects.specs.Numbering.{configuration_of_objects, hosts_in_order, services_in_order, index_of_name, numbered_host, numbered_service};
-ghost use Rattle.setup_model.specs.Name.{is_host_name, full_name};
+ghost use Rattle.setup_model.specs.Name.{is_host_name, full_name, pair_order, text_order};
 ghost use Rattle.setup_objects.specs.Configuration.{number_among};
 ghost use Rattle.setup_model.specs.Keys.{first_repeat, names_of, key_of, is_same_key};
 ghost use Rattle.setup_model.specs.ParsedViews.{host, service, parsed_view, texts};
-ghost use Rattle.setup_objects.specs.Entries.{objects_in, host_entry, service_entry, sorted_host, sorted_service};
+ghost use Rattle.setup_objects.specs.Entries.{objects_in, host_entry, service_entry};
 ghost use Rattle.setup_model.specs.Text.{text};
 
 use indexmap::{IndexMap, IndexSet};
@@ -16,7 +17,6 @@ use serde_json::Value;
 use setup_model::{Object, ParsedHost, ParsedService, ParsedSetup, full_name, text};
 use smallvec::SmallVec;
 use std::alloc::{AllocError, Global};
-use std::collections::BTreeMap;
 
 /// The parents of a host, by number. Most hosts have few.
 pub type Parents = SmallVec<u32, 4>;
@@ -58,59 +58,55 @@ pub fn number_objects(
     let hosts = sort_hosts(alloc, &parsed.hosts)?;
     let services = sort_services(alloc, &parsed.services)?;
     let names = number_names(alloc, &hosts)?;
-    let hosts = index_hosts(alloc, hosts, &names)?;
-    let services = index_services(alloc, services, &names)?;
+    let hosts = index_hosts(alloc, &hosts, &names)?;
+    let services = index_services(alloc, &services, &names)?;
     Ok((hosts, services))
 }
 
 // ---- the order
 
-/// The hosts, whose names are distinct, in the order of their names' bytes. Each has its object and its
-/// parents' names.
+/// The hosts, whose names are distinct, in the order of their names' bytes. An Err means out of memory.
 fn sort_hosts<'v>(
     alloc: Global,
     parsed: &[ParsedHost<'v>],
-) -> Result<BTreeMap<&'v str, (Object, &'v [Value])>, AllocError>
+) -> Result<Vec<ParsedHost<'v>>, AllocError>
     requires distinct { first_repeat bytes_eq (names_of (map host parsed.now)) ≡ None }
-    ensures { IfOk result (λ m.
-        map sorted_host m.entries ≡ hosts_in_order (map host parsed.now)) }
+    ensures { IfOk result (λ sorted.
+        map host sorted.items ≡ hosts_in_order (map host parsed.now)) }
 {
-    let mut sorted = BTreeMap::new(alloc);
-    for item in parsed {
-        sorted.insert(item.name, (item.check, item.parents))?;
-    }
+    let mut sorted = Vec::from_slice(alloc, parsed)?;
+    sorted.sort_unstable_by_key(|item| item.name);
     Ok(sorted)
 }
 
 /// The services, in the order of their hosts' names and then of their descriptions. No two of them have both
-/// the same host and the same description.
+/// the same host and the same description. An Err means out of memory.
 fn sort_services<'v>(
     alloc: Global,
     parsed: &[ParsedService<'v>],
-) -> Result<BTreeMap<(&'v str, &'v str), Object>, AllocError>
+) -> Result<Vec<ParsedService<'v>>, AllocError>
     requires distinct { first_repeat is_same_key (map key_of (map service parsed.now)) ≡ None }
-    ensures { IfOk result (λ m.
-        map sorted_service m.entries ≡ services_in_order (map service parsed.now)) }
+    ensures { IfOk result (λ sorted.
+        map service sorted.items ≡ services_in_order (map service parsed.now)) }
 {
-    let mut sorted = BTreeMap::new(alloc);
-    for item in parsed {
-        sorted.insert((item.host, item.description), item.check)?;
-    }
+    let mut sorted = Vec::from_slice(alloc, parsed)?;
+    sorted.sort_unstable_by_key(|item| (item.host, item.description));
     Ok(sorted)
 }
 
 // ---- links
 
-/// The names of the hosts in order, each at the index that is its number.
+/// The names of these hosts, which ascend, each at the index that is its number. An Err means out of memory.
 fn number_names<'v>(
     alloc: Global,
-    sorted: &BTreeMap<&'v str, (Object, &'v [Value])>,
+    sorted: &[ParsedHost<'v>],
 ) -> Result<IndexSet<&'v str>, AllocError>
-    ensures { IfOk result (λ s. texts s.keys ≡ map (λ e. e.0) (map sorted_host sorted.now.entries)) }
+    requires { IsStrictlySortedBy text_order (names_of (map host sorted.now)) }
+    ensures { IfOk result (λ names. texts names.keys ≡ names_of (map host sorted.now)) }
 {
     let mut names = IndexSet::with_capacity(alloc, sorted.len())?;
-    for name in sorted.keys() {
-        names.insert(*name)?;
+    for item in sorted {
+        names.insert(item.name)?;
     }
     Ok(names)
 }
@@ -145,40 +141,45 @@ fn number_parents(
 
 // ---- names to objects
 
-/// The hosts by name, each at the index that is its number.
+/// These hosts, whose names ascend, by name. Each is at the index that is its number. An Err means out of memory.
 fn index_hosts(
     alloc: Global,
-    sorted: BTreeMap<&str, (Object, &[Value])>,
+    sorted: &[ParsedHost<'_>],
     names: &IndexSet<&str>,
 ) -> Result<IndexMap<String, Host>, AllocError>
-    requires { length names.now.keys ≤ 4096 }
-    ensures { IfOk result (λ m. map host_entry m.entries
-        ≡ map (numbered_host (texts names.now.keys)) (map sorted_host sorted.entry.entries)) }
+    requires bounded { length names.now.keys ≤ 4096 }
+    requires ascending { IsStrictlySortedBy text_order (names_of (map host sorted.now)) }
+    ensures { IfOk result (λ hosts. map host_entry hosts.entries
+        ≡ map (numbered_host (texts names.now.keys)) (map host sorted.now)) }
 {
     let mut hosts = IndexMap::with_capacity(alloc, sorted.len())?;
-    for (name, (object, parents)) in sorted {
-        let parents = number_parents(alloc, parents, names)?;
-        let name = String::from_str(alloc, name)?;
+    for item in sorted {
+        let parents = number_parents(alloc, item.parents, names)?;
+        let name = String::from_str(alloc, item.name)?;
+        let object = item.check;
         append(&mut hosts, name, Host { object, parents })?;
     }
     Ok(hosts)
 }
 
-/// The services by full name. The number of each is its index plus the number of hosts.
+/// These services, whose pairs of host and description ascend, by full name. The number of each is its index
+/// plus the number of hosts. An Err means out of memory.
 fn index_services(
     alloc: Global,
-    sorted: BTreeMap<(&str, &str), Object>,
+    sorted: &[ParsedService<'_>],
     names: &IndexSet<&str>,
 ) -> Result<IndexMap<String, Service>, AllocError>
     requires bounded { length names.now.keys ≤ 4096 }
-    requires without_semicolon { list_all (λ e. is_host_name e.0.0.now) sorted.entries ≡ true }
-    ensures { IfOk result (λ m. map service_entry m.entries
-        ≡ map (numbered_service (texts names.now.keys)) (map sorted_service sorted.entry.entries)) }
+    requires ascending { IsStrictlySortedBy pair_order (map key_of (map service sorted.now)) }
+    requires without_semicolon { list_all (λ s. is_host_name s.host) (map service sorted.now) ≡ true }
+    ensures { IfOk result (λ services. map service_entry services.entries
+        ≡ map (numbered_service (texts names.now.keys)) (map service sorted.now)) }
 {
     let mut services = IndexMap::with_capacity(alloc, sorted.len())?;
-    for ((host, description), object) in sorted {
-        let name = full_name(alloc, host, description)?;
-        let host = number_of(names, host);
+    for item in sorted {
+        let name = full_name(alloc, item.host, item.description)?;
+        let object = item.check;
+        let host = number_of(names, item.host);
         append(&mut services, name, Service { object, host })?;
     }
     Ok(services)

@@ -1,6 +1,6 @@
 -- Verifies a parsed setup that is in the right shape: one test after another, each over all items. The fault is that of the first item that doesn't pass a
 -- test.
-use Rattle.std.specs.Prelude.{ℕ, ◌+◌, List, length, map, option_map, sum_by, position, not, Result, Ok, Err, bytes_eq, nat_lt, nat_le, if◌then◌else◌}
+use Rattle.std.specs.Prelude.{ℕ, ◌+◌, List, [], ◌∷◌, length, map, Option, Some, None, option_map, sum_by, position, not, Result, Ok, Err, bytes_eq, nat_lt, nat_le, if◌then◌else◌}
 use Rattle.setup_model.specs.declared.parsed_setup.Object.{Object}
 use Rattle.setup_model.specs.declared.fault.Count.{Count}
 use Rattle.setup_model.specs.declared.fault.Count.TheVariants as count
@@ -101,15 +101,20 @@ links_test names parsed =
 abbrev pub within : Row → ℕ → Result (Unit {0}) RangeFault
 within m n = if is_within_limits m n then Ok tt else Err (fault.out_of_range m n)
 
--- a fixed delay is within the limits of its member
-abbrev pub delay_test : Row → DelayMethod → Result (Unit {0}) RangeFault
-delay_test m (method.Fixed delay) = within m delay
-delay_test m other = Ok tt
+-- a number, if there is one, is within the limits of its member
+abbrev pub number_test : Row → Option ℕ → Result (Unit {0}) RangeFault
+number_test m None = Ok tt
+number_test m (Some n) = within m n
 
--- a fixed factor is within the limits of its member
-abbrev pub factor_test : Row → InterleaveFactor → Result (Unit {0}) RangeFault
-factor_test m factor.Smart = Ok tt
-factor_test m (factor.Fixed n) = within m n
+-- the number of a fixed delay
+abbrev pub fixed_delay : DelayMethod → Option ℕ
+fixed_delay (method.Fixed delay) = Some delay
+fixed_delay other = None
+
+-- the number of a fixed factor
+abbrev pub fixed_factor : InterleaveFactor → Option ℕ
+fixed_factor factor.Smart = None
+fixed_factor (factor.Fixed n) = Some n
 
 -- both intervals and the attempts are within their limits
 abbrev pub check_ranges_test : Object → Result (Unit {0}) RangeFault
@@ -117,22 +122,25 @@ check_ranges_test c =
     within members.check_interval c.check_interval >>= λ _.
     (within members.retry_interval c.retry_interval >>= λ _. within members.max_check_attempts c.max_check_attempts)
 
--- each number of the options, except for the thresholds of flapping, is within the limits of its member
-abbrev pub option_numbers_test : Options → Result (Unit {0}) RangeFault
-option_numbers_test o =
-    within members.interval_length o.interval_length >>= λ _.
-    (delay_test members.service_inter_check_delay_method o.service_inter_check_delay_method >>= λ _.
-    (within members.max_service_check_spread o.max_service_check_spread >>= λ _.
-    (factor_test members.service_interleave_factor o.service_interleave_factor >>= λ _.
-    (delay_test members.host_inter_check_delay_method o.host_inter_check_delay_method >>= λ _.
-    (within members.max_host_check_spread o.max_host_check_spread >>= λ _. within members.max_concurrent_checks o.max_concurrent_checks)))))
+-- the numbers of the options, each with its member, in the order of the table
+abbrev pub option_numbers : Options → List (Row × Option ℕ)
+option_numbers o =
+    (members.interval_length, Some o.interval_length)
+    ∷ (members.service_inter_check_delay_method, fixed_delay o.service_inter_check_delay_method)
+    ∷ (members.max_service_check_spread, Some o.max_service_check_spread)
+    ∷ (members.service_interleave_factor, fixed_factor o.service_interleave_factor)
+    ∷ (members.host_inter_check_delay_method, fixed_delay o.host_inter_check_delay_method)
+    ∷ (members.max_host_check_spread, Some o.max_host_check_spread)
+    ∷ (members.max_concurrent_checks, Some o.max_concurrent_checks)
+    ∷ (members.low_service_flap_threshold, Some o.low_service_flap_threshold)
+    ∷ (members.high_service_flap_threshold, Some o.high_service_flap_threshold)
+    ∷ (members.low_host_flap_threshold, Some o.low_host_flap_threshold)
+    ∷ (members.high_host_flap_threshold, Some o.high_host_flap_threshold)
+    ∷ []
 
--- the thresholds of flapping are within the limits of their members
-abbrev pub thresholds_test : Options → Result (Unit {0}) RangeFault
-thresholds_test o =
-    within members.low_service_flap_threshold o.low_service_flap_threshold >>= λ _.
-    (within members.high_service_flap_threshold o.high_service_flap_threshold >>= λ _.
-    (within members.low_host_flap_threshold o.low_host_flap_threshold >>= λ _. within members.high_host_flap_threshold o.high_host_flap_threshold))
+-- each of them is within the limits of its member
+abbrev pub option_numbers_test : Options → Result (Unit {0}) RangeFault
+option_numbers_test o = each (λ i x. number_test x.0 x.1) (option_numbers o)
 
 -- the first of two numbers isn't above the second
 abbrev pub order_test : (ℕ → ℕ → RangeFault) → ℕ → ℕ → Result (Unit {0}) RangeFault
@@ -146,7 +154,7 @@ threshold_order_test o =
 
 -- the numbers of the options are within their limits, in the order of the table, and the thresholds in their order
 abbrev pub option_ranges_test : Options → Result (Unit {0}) RangeFault
-option_ranges_test o = option_numbers_test o >>= λ _. (thresholds_test o >>= λ _. threshold_order_test o)
+option_ranges_test o = option_numbers_test o >>= λ _. threshold_order_test o
 
 abbrev pub options_test : Options → Result (Unit {0}) Fault
 options_test options = with_error (fault.range options_place) (option_ranges_test options)

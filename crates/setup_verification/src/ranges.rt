@@ -5,9 +5,8 @@ ghost use Rattle.setup_model.specs.Agreement.{each, IsExpectedResult};
 ghost use Rattle.setup_model.specs.ParsedViews.{host, service};
 ghost use Rattle.setup_model.specs.Fault.{IsExpectedReading, range_view, service_thresholds, host_thresholds};
 ghost use Rattle.setup_model.specs.Member.{as_row};
-ghost use Rattle.setup_verification.specs.Verification.{check_ranges_test, delay_test, factor_test, host_range_test, options_test, setup_ranges_test};
-ghost use Rattle.setup_verification.specs.Verification.{service_range_test, order_test, option_numbers_test, option_ranges_test, threshold_order_test};
-ghost use Rattle.setup_verification.specs.Verification.{thresholds_test, within};
+ghost use Rattle.setup_verification.specs.Verification.{check_ranges_test, fixed_delay, fixed_factor, host_range_test, number_test, options_test, setup_ranges_test};
+ghost use Rattle.setup_verification.specs.Verification.{service_range_test, option_numbers_test, option_ranges_test, threshold_order_test, within};
 
 use setup_model::members::{CHECK_INTERVAL, MAX_CHECK_ATTEMPTS, RETRY_INTERVAL};
 use setup_model::options::{
@@ -89,7 +88,6 @@ fn verify_option_numbers(options: &Options) -> Result<(), RangeFault>
     ensures { IsExpectedResult (λ f. Some (range_view f)) (λ u. u) result (option_ranges_test options.now) }
 {
     verify_numbers(options)?;
-    verify_thresholds(options)?;
     verify_thresholds_in_order(options)
 }
 
@@ -108,32 +106,7 @@ fn verify_numbers(options: &Options) -> Result<(), RangeFault>
         options.host_inter_check_delay_method,
     )?;
     verify_number(MAX_HOST_CHECK_SPREAD, options.max_host_check_spread)?;
-    verify_number(MAX_CONCURRENT_CHECKS, options.max_concurrent_checks)
-}
-
-fn verify_delay(member: Member, method: DelayMethod) -> Result<(), RangeFault>
-    ensures { IsExpectedResult (λ f. Some (range_view f)) (λ u. u) result
-        (delay_test (as_row member) method) }
-{
-    match method {
-        DelayMethod::Fixed(delay) => verify_number(member, delay),
-        _ => Ok(()),
-    }
-}
-
-fn verify_factor(member: Member, factor: InterleaveFactor) -> Result<(), RangeFault>
-    ensures { IsExpectedResult (λ f. Some (range_view f)) (λ u. u) result
-        (factor_test (as_row member) factor) }
-{
-    match factor {
-        InterleaveFactor::Smart => Ok(()),
-        InterleaveFactor::Fixed(factor) => verify_number(member, factor),
-    }
-}
-
-fn verify_thresholds(options: &Options) -> Result<(), RangeFault>
-    ensures { IsExpectedResult (λ f. Some (range_view f)) (λ u. u) result (thresholds_test options.now) }
-{
+    verify_number(MAX_CONCURRENT_CHECKS, options.max_concurrent_checks)?;
     verify_number(
         LOW_SERVICE_FLAP_THRESHOLD,
         options.low_service_flap_threshold,
@@ -144,6 +117,26 @@ fn verify_thresholds(options: &Options) -> Result<(), RangeFault>
     )?;
     verify_number(LOW_HOST_FLAP_THRESHOLD, options.low_host_flap_threshold)?;
     verify_number(HIGH_HOST_FLAP_THRESHOLD, options.high_host_flap_threshold)
+}
+
+fn verify_delay(member: Member, method: DelayMethod) -> Result<(), RangeFault>
+    ensures { IsExpectedResult (λ f. Some (range_view f)) (λ u. u) result
+        (number_test (as_row member) (fixed_delay method)) }
+{
+    match method {
+        DelayMethod::Fixed(delay) => verify_number(member, delay),
+        _ => Ok(()),
+    }
+}
+
+fn verify_factor(member: Member, factor: InterleaveFactor) -> Result<(), RangeFault>
+    ensures { IsExpectedResult (λ f. Some (range_view f)) (λ u. u) result
+        (number_test (as_row member) (fixed_factor factor)) }
+{
+    match factor {
+        InterleaveFactor::Smart => Ok(()),
+        InterleaveFactor::Fixed(factor) => verify_number(member, factor),
+    }
 }
 
 /// Whether no low threshold of flapping is above its high threshold.

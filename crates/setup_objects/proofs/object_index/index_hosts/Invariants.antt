@@ -1,9 +1,8 @@
-use Rattle.std.proofs.Common.{map}
-use Rattle.setup_model.specs.ParsedViews.{texts}
-use Rattle.setup_objects.specs.Entries.{host_entry, sorted_host}
+use Rattle.std.proofs.Common.{◌≡◌, map, take}
+use Rattle.setup_model.specs.ParsedViews.{host, texts}
+use Rattle.setup_objects.specs.Entries.{host_entry}
 use Rattle.setup_objects.specs.Numbering.{numbered_host}
-use Rattle.setup_objects.proofs.NumberingLemmas.{Built}
 use Rattle.setup_objects.proofs.object_index.index_hosts.Given as goal
 
-abbrev pub invariant-loop-name : goal.invariant-loop-name
-invariant-loop-name l = Built (λ e. numbered_host (texts l.names.keys) (sorted_host e)) l.fn.sorted.entries l.name-iterator (map host_entry l.hosts.entries)
+abbrev pub invariant-loop-item : goal.invariant-loop-item
+invariant-loop-item l = map host_entry l.hosts.entries ≡ map (numbered_host (texts l.names.keys)) (map host (take l.item-index l.sorted))

@@ -1,7 +1,7 @@
-use Rattle.std.specs.BTreeMap.{keys}
-use Rattle.setup_model.specs.ParsedViews.{texts}
-use Rattle.setup_objects.proofs.NumberingLemmas.{Built}
+use Rattle.std.proofs.Common.{◌≡◌, map, take}
+use Rattle.setup_model.specs.Keys.{names_of}
+use Rattle.setup_model.specs.ParsedViews.{host, texts}
 use Rattle.setup_objects.proofs.object_index.number_names.Given as goal
 
-abbrev pub invariant-loop-name : goal.invariant-loop-name
-invariant-loop-name l = Built (λ k. k.now) (keys l.sorted) l.name-iterator (texts l.names.keys)
+abbrev pub invariant-loop-item : goal.invariant-loop-item
+invariant-loop-item l = texts l.names.keys ≡ names_of (map host (take l.item-index l.sorted))
