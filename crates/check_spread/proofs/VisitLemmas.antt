@@ -9,9 +9,22 @@ use Rattle.std.proofs.lemmas.List.{get_or-set_same, get_or-set_other, length-set
 use Rattle.std.proofs.Math.ListN.{set}
 use Rattle.std.proofs.lemmas.List.Sums.{sum_by-cons, sum_by_push}
 use Rattle.setup_model.specs.declared.parsed_setup.Object.{Object}
-use Rattle.check_spread.specs.Spread.{is_scheduled}
-use Rattle.check_spread.specs.Visits.{visit_count, count_at, HasCounts, has_remainder, has_remainder_before, has_less_remainder, is_visited_earlier}
-use Rattle.check_spread.specs.Visits.{sums_before}
+use Rattle.check_spread.specs.Spread.{is_scheduled, is_visited_before}
+use Rattle.check_spread.specs.Visits.{visit_count, count_at, HasCounts, has_less_remainder, sums_before}
+
+-- ---- tests of positions
+
+-- positions with this remainder
+abbrev pub has_remainder : ℕ → ℕ → ℕ → Bool
+has_remainder factor remainder position = position % factor == remainder
+
+-- positions with this remainder before this one
+abbrev pub has_remainder_before : ℕ → ℕ → ℕ → ℕ → Bool
+has_remainder_before factor end remainder position = position % factor == remainder && nat_lt position end
+
+-- positions that are visited before those with this remainder from this end on
+abbrev pub is_visited_earlier : ℕ → ℕ → ℕ → ℕ → Bool
+is_visited_earlier factor end remainder position = is_visited_before factor remainder end position
 
 -- ---- counts of one test
 

@@ -1,8 +1,8 @@
 -- Counts of the objects that are visited, as the code stores them.
-use Rattle.std.specs.Prelude.{◌≡◌, ℕ, ◌+◌, ◌%◌, ◌<◌, ◌==◌, ◌&&◌, Bool, List, [], ◌∷◌, length, count_by, nat_lt}
+use Rattle.std.specs.Prelude.{◌≡◌, ℕ, ◌+◌, ◌%◌, ◌<◌, ◌&&◌, Bool, List, [], ◌∷◌, length, count_by, nat_lt}
 use Rattle.std.specs.List.{enumerate_from, slice_index_or}
 use Rattle.setup_model.specs.declared.parsed_setup.Object.{Object}
-use Rattle.check_spread.specs.Spread.{is_scheduled, is_visited_before}
+use Rattle.check_spread.specs.Spread.{is_scheduled}
 
 -- the number of scheduled objects at positions that pass the test; the first of the list is at this position
 abbrev pub visit_count : (ℕ → Bool) → ℕ → List Object → ℕ
@@ -17,21 +17,9 @@ pub record HasCounts (test : ℕ → ℕ → Bool) (factor : ℕ) (objects : Lis
   pub size : length counts ≡ factor
   pub at : (remainder : ℕ) → remainder < factor → count_at counts remainder ≡ visit_count (test remainder) 0 objects
 
--- positions with this remainder
-abbrev pub has_remainder : ℕ → ℕ → ℕ → Bool
-has_remainder factor remainder position = position % factor == remainder
-
--- positions with this remainder before this one
-abbrev pub has_remainder_before : ℕ → ℕ → ℕ → ℕ → Bool
-has_remainder_before factor end remainder position = position % factor == remainder && nat_lt position end
-
 -- positions with a smaller remainder, which are visited before all with this one
 abbrev pub has_less_remainder : ℕ → ℕ → ℕ → Bool
 has_less_remainder factor remainder position = nat_lt (position % factor) remainder
-
--- positions that are visited before those with this remainder from this end on
-abbrev pub is_visited_earlier : ℕ → ℕ → ℕ → ℕ → Bool
-is_visited_earlier factor end remainder position = is_visited_before factor remainder end position
 
 -- for each count, the sum of this start and of the counts before it
 abbrev pub sums_before : ℕ → List ℕ → List ℕ

@@ -33,6 +33,8 @@ pub(crate) struct Changes {
 impl Changes {
     /// The changes among these results. The two parts of the ring are scanned one after the other, each from
     /// the result before it. The oldest result counts as its own predecessor.
+    // A separate call, since a report scans the results only until there are 21.
+    #[inline(never)]
     pub(crate) fn among(results: &HeapCircularBuffer<State>) -> Changes
         requires { length results.now.items ≤ STORED_RESULTS }
         ensures weight { result.weight ≡ changes_weight results.now.items }

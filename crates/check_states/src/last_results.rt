@@ -82,9 +82,9 @@ impl LastResults {
         }
     }
 
-    /// Stores one more result, as [`LastResults::push`] does, for any results. It is a separate function, so
-    /// that a result that changes nothing costs no more than the test.
-    #[inline(never)]
+    /// Stores one more result, as [`LastResults::push`] does, for any results.
+    // Only `push` calls it. A call of its own would save registers and load fields again.
+    #[inline(always)]
     fn push_and_count(&mut self, found: State, was: bool, low: u8, high: u8) -> bool
         ensures kept { self.new ≡ results_after self.old found }
         ensures flaps { result ≡ is_flapping (results_after self.old found) was low high }

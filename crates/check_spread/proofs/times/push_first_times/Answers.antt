@@ -7,8 +7,7 @@ use Rattle.std.proofs.lemmas.List.Elements.{All-push}
 use Rattle.setup_model.proofs.DefaultItems.{no_check}
 use Rattle.check_spread.specs.Spread.{first_times}
 use Rattle.check_states.specs.declared.times.TheConstants.{LAST_TIME}
-use Rattle.check_spread.specs.Visits.{is_visited_earlier}
-use Rattle.check_spread.proofs.VisitLemmas.{counts_add, counts_skip, earlier_same, earlier_more, rank_less, visits_few}
+use Rattle.check_spread.proofs.VisitLemmas.{is_visited_earlier, counts_add, counts_skip, earlier_same, earlier_more, rank_less, visits_few}
 use Rattle.check_spread.proofs.TimesLemmas.{first_times_more, length-first_times, first_time_is, first_time_none, pushed}
 use Rattle.check_spread.proofs.times.push_first_times.Goals as goal
 use Rattle.check_spread.proofs.times.push_first_times.Goals.{then-is_scheduled+in_ok-push, else-is_scheduled+in_ok-push-2}

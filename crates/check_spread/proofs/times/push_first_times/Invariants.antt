@@ -1,7 +1,8 @@
 use Rattle.std.proofs.Common.{◌≡◌, ◌++◌, ◌<◌, take, All, IfSome}
 use Rattle.check_spread.specs.Spread.{first_times}
 use Rattle.check_states.specs.declared.times.TheConstants.{LAST_TIME}
-use Rattle.check_spread.specs.Visits.{HasCounts, is_visited_earlier}
+use Rattle.check_spread.specs.Visits.{HasCounts}
+use Rattle.check_spread.proofs.VisitLemmas.{is_visited_earlier}
 use Rattle.check_spread.proofs.times.push_first_times.Given as goal
 
 abbrev pub invariant-loop-position : goal.invariant-loop-position
