@@ -32,7 +32,7 @@ use Rattle.check_sched.proofs.TakeLaws.{take_cases}
 -- ---- one object changed
 
 -- what is true of an object after one was changed: of the same object as it was, or of what it became
-changed : (P : Scheduling → Type 0) (n k : ℕ) (f : Scheduling → Scheduling) (xs : List Scheduling) → P (scheduling_at xs k)
+pub changed : (P : Scheduling → Type 0) (n k : ℕ) (f : Scheduling → Scheduling) (xs : List Scheduling) → P (scheduling_at xs k)
     → (n ≡ k → (o : Scheduling) → scheduling_at xs k ≡ o → P (f o)) → P (scheduling_at (update_at n f xs) k)
 changed P n k f [] was new = was
 changed P zero zero f (x ∷ xs) was new = new refl x refl

@@ -35,3 +35,4 @@ pub mod AbandonLaws
 pub mod SavedIndexLaws
 pub mod ResumedRunLaws
 pub mod LastingLaws
+pub mod PassedOverLaws

@@ -16,3 +16,4 @@ pub mod Board
 pub mod Saved
 pub mod SavedIndexes
 pub mod Lasting
+pub mod PassedOver

@@ -22,8 +22,10 @@ ghost use Rattle.check_sched.specs.Flapping.{flapping_in, never_checked, reporte
 ghost use Rattle.check_sched.specs.declared.call.Reply.{Reply};
 
 mod lasting;
+mod passed_over;
 
 pub use lasting::never_forgotten;
+pub use passed_over::passed_over_once;
 
 /// After every sequence of calls of a newly opened scheduler, no more services are being checked than the
 /// option `max_concurrent_checks` allows. 0 means no limit.

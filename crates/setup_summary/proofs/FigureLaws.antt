@@ -20,7 +20,7 @@ one_of : (b : Bool) → cond b 1 0 + cond (not b) 1 0 ≡ 1
 one_of true = refl
 one_of false = refl
 
-yes_and_no : {X : Type 0} (p q : X → Bool) (xs : List X) → ((x : X) → q x ≡ not (p x)) → count_by p xs + count_by q xs ≡ length xs
+pub yes_and_no : {X : Type 0} (p q : X → Bool) (xs : List X) → ((x : X) → q x ≡ not (p x)) → count_by p xs + count_by q xs ≡ length xs
 yes_and_no p q [] h = refl
 yes_and_no p q (x ∷ xs) h =
     let again = yes_and_no p q xs h in

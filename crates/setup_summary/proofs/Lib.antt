@@ -4,5 +4,6 @@ pub mod ChainLemmas
 pub mod LawLemmas
 pub mod ObjectDiffLemmas
 pub mod FigureLemmas
+pub mod KeptLaws
 pub mod ChangeTextLemmas
 pub mod FigureLaws

@@ -2,8 +2,8 @@
 
 ghost use Rattle.setup_summary.specs.Changes.{ended_count, figures_of};
 ghost use Rattle.setup_model.specs.declared.parsed_setup.Object.{Object};
-ghost use Rattle.check_objects.specs.Configuration.{Configuration, object_count};
-ghost use Rattle.check_saved_state.specs.Saved.{Saved};
+ghost use Rattle.check_objects.specs.Configuration.{Configuration, IsSetup, object_count};
+ghost use Rattle.check_saved_state.specs.Saved.{IsSaved, Saved};
 ghost use Rattle.check_sched.specs.Roster.{running_among};
 ghost use Rattle.check_sched.specs.Saved.{objects_kept, objects_after_resume};
 ghost use Rattle.setup_summary.specs.Chains.{has_chain, longest_chain, HasChainOfLength};
@@ -40,13 +40,15 @@ pub fn chains_are_longest()
         → longest_chain links < count → has_chain links count ≡ false }
 {}
 
-/// Each object of a setup is kept or new (`setup`). The number of kept objects that are out, for any first
-/// times, is the number of those that are still out after the resume plus the number of runs that are
-/// abandoned (`runs`). The abandoned runs are those of the objects that are out before and aren't out after
-/// the resume (`given_up`).
+/// Each object of a setup is kept or new (`setup`), and each object of a saved state is kept or dropped
+/// (`saved`). The number of kept objects that are out, for any first times, is the number of those that are
+/// still out after the resume plus the number of runs that are abandoned (`runs`). The abandoned runs are those
+/// of the objects that are out before and aren't out after the resume (`given_up`).
 pub fn figures_add_up()
     ensures setup { (setup : Configuration) → (saved : Saved)
         → (figures_of setup saved).kept + (figures_of setup saved).new ≡ object_count setup }
+    ensures saved { (setup : Configuration) → (saved : Saved) → IsSetup setup → IsSaved saved
+        → (figures_of setup saved).kept + (figures_of setup saved).dropped ≡ length saved.objects }
     ensures runs { (setup : Configuration) → (saved : Saved) → (start : ℕ)
         → (times : List (Option ℕ)) → running_among (objects_kept setup saved times)
         ≡ running_among (objects_after_resume setup saved start) + (figures_of setup saved).given_up }

@@ -187,8 +187,8 @@ impl Sched {
 
     /// Ends a run that began at `start` by the rules. The standing and the next time follow from its code.
     /// The next time may be set already.
-    // A separate call, so that an OK which changes nothing doesn't pay for the values that this one keeps.
-    #[inline(never)]
+    // Only `report` calls it. The reply of a call of its own would be copied, field by field.
+    #[inline(always)]
     fn report_changed(&mut self, object: u32, code: Code, start: u64, already: Option<u64>) -> Reply
         requires in_range { object < object_count self.old.setup }
         requires moment { start ≤ LAST_MOMENT }
