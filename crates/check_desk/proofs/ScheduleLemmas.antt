@@ -39,21 +39,19 @@ module _ (setup : Configuration) (start room : ℕ) (s : Schedule BookState Call
   pub sched_here : s.end.book.state.sched ≡ replay step (opening setup start) s.end.book.entries
   sched_here = ap (λ (b : BookState). b.sched) lawful.replayed ∙ sched_replayed (opening setup start) room s.end.book.entries
 
-module _ (setup : Configuration) (start : ℕ) (earlier : List (Entry Call Reply)) (room : ℕ) (s : Schedule BookState Call Reply)
-    (is : IsScheduleAfter setup start earlier room s) where
-  lawful_later : IsLawfulBook book_step (book_at (replay step (opening setup start) earlier) room) s.end.book
+module _ (from : State) (earlier : List (Entry Call Reply)) (room : ℕ) (s : Schedule BookState Call Reply) (is : IsScheduleAfter from earlier room s) where
+  lawful_later : IsLawfulBook book_step (book_at (replay step from earlier) room) s.end.book
   lawful_later = subst (λ (o : BookState). IsLawfulBook book_step o s.end.book) is.opens (schedule_book kept_book s is.schedule)
 
-  pub legal_joined : IsLegal step (opening setup start) (earlier ++ s.end.book.entries)
-  legal_joined = joined_book (opening setup start) room earlier s.end.book.entries is.legal_before lawful_later.legal
+  pub legal_joined : IsLegal step from (earlier ++ s.end.book.entries)
+  legal_joined = joined_book from room earlier s.end.book.entries is.legal_before lawful_later.legal
 
   pub joined_parts : (front back : List (Entry Call Reply)) (e : Entry Call Reply) → earlier ++ s.end.book.entries ≡ front ++ e ∷ back
-      → IsLegal step (opening setup start) (front ++ e ∷ back)
-  joined_parts front back e parts = subst (IsLegal step (opening setup start)) parts legal_joined
+      → IsLegal step from (front ++ e ∷ back)
+  joined_parts front back e parts = subst (IsLegal step from) parts legal_joined
 
-  pub sched_joined : s.end.book.state.sched ≡ replay step (opening setup start) (earlier ++ s.end.book.entries)
-  sched_joined =
-      ap (λ (b : BookState). b.sched) lawful_later.replayed ∙ joined_book_state (opening setup start) room earlier s.end.book.entries
+  pub sched_joined : s.end.book.state.sched ≡ replay step from (earlier ++ s.end.book.entries)
+  sched_joined = ap (λ (b : BookState). b.sched) lawful_later.replayed ∙ joined_book_state from room earlier s.end.book.entries
 
 module _ (opened : BookState) (s : Schedule BookState Call Reply) (is : IsScheduleFrom opened s) where
   lawful_from : IsLawfulBook book_step opened s.end.book

@@ -7,7 +7,7 @@ use Rattle.ticket_steps.specs.Schedules.{Schedule, IsSchedule}
 use Rattle.check_objects.specs.Configuration.{Configuration}
 use Rattle.check_sched.specs.declared.call.Call.{Call}
 use Rattle.check_sched.specs.declared.call.Reply.{Reply}
-use Rattle.check_sched.specs.State.{opening}
+use Rattle.check_sched.specs.State.{State}
 use Rattle.check_sched.specs.Step.{step}
 use Rattle.check_book.specs.BookState.{BookState, book_at, book_opening}
 use Rattle.check_book.specs.Books.{entries_of, refused_of, state_of}
@@ -20,12 +20,12 @@ pub record IsScheduleOver (setup : Configuration) (start room : ℕ) (s : Schedu
   pub schedule : IsSchedule kept_book s
   pub opening : s.opening ≡ book_opening setup start room
 
--- The same over a book that continues the books before it. It opens in the state after `earlier`, a legal history of the scheduler on this setup,
--- from this start on. For the first book, `earlier` is empty.
-pub record IsScheduleAfter (setup : Configuration) (start : ℕ) (earlier : List (Entry Call Reply)) (room : ℕ) (s : Schedule BookState Call Reply) : Type 0 where
+-- The same over a book that continues the books before it. It opens in the state after `earlier`, a legal history of the scheduler from this state on.
+-- For the first book, `earlier` is empty.
+pub record IsScheduleAfter (from : State) (earlier : List (Entry Call Reply)) (room : ℕ) (s : Schedule BookState Call Reply) : Type 0 where
   pub schedule : IsSchedule kept_book s
-  pub legal_before : IsLegal step (opening setup start) earlier
-  pub opens : s.opening ≡ book_at (replay step (opening setup start) earlier) room
+  pub legal_before : IsLegal step from earlier
+  pub opens : s.opening ≡ book_at (replay step from earlier) room
 
 -- The same over a book that opens empty in this state. A book that resumes a saved state opens like that.
 pub record IsScheduleFrom (opened : BookState) (s : Schedule BookState Call Reply) : Type 0 where

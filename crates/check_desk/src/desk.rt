@@ -1,6 +1,6 @@
 //! The desk and its calls.
 
-ghost use Rattle.std.specs.Prelude.{⊤, ◌≡◌, ◌↔◌, ℕ, ◌+◌, ◌<◌, ◌≤◌, [], length, false, Some, None, IsErr, IfSome, IfOk, IfErr, vec_capacity};
+ghost use Rattle.std.specs.Prelude.{⊤, ◌≡◌, ◌↔◌, ℕ, ◌+◌, ◌<◌, ◌≤◌, [], length, false, Some, None, IsErr, IfSome, IfOk, IfErr, OnErr, vec_capacity};
 ghost use Rattle.std.specs.List.{All};
 ghost use Rattle.ticket_steps.specs.History.{of};
 ghost use Rattle.ticket_steps.specs.Books.{book_state, IsLawfulBook};
@@ -10,6 +10,7 @@ ghost use Rattle.ticket_lock.specs.Tokens.{has_posted, hold_of, refused_before, 
 ghost use Rattle.ticket_lock.specs.Views.{Follows};
 ghost use Rattle.check_objects.specs.Configuration.{object_count};
 ghost use Rattle.check_book.specs.BookState.{book_step};
+ghost use Rattle.check_sched.specs.Board.{slot_of_reply};
 ghost use Rattle.check_book.specs.contracts.book.BookKept.TheImpl.{ghosts as kept_book};
 ghost use Rattle.check_book.specs.Books.{entries_of, opening_of, refused_of, room_of, state_of};
 
@@ -22,7 +23,7 @@ use std::alloc::Global;
 use std::sync::Wait;
 use std::thread::yield_now;
 use ticket_lock::{Look, Seat, TicketLock};
-use ticket_steps::{DRAWS, Kept};
+use ticket_steps::{DRAWS, Kept, NoMemory};
 
 /// The number of pauses of a waiting call between polls before the call yields. Each pause is twice as long
 /// as the one before.
@@ -217,8 +218,8 @@ impl Desk {
             ((desk_opening self.now).room ≤ length (hold_caller hold).seen) ⊤ }
     {
         let Hold { hold, mut book } = hold;
-        let place = book.posts(call);
         let recorded = book.record(hold.number(), call);
+        let place = place_of(call, recorded);
         let seat = self.leave(hold, book, place);
         let answer = match recorded {
             Ok(reply) => Answer::Reply(reply),
@@ -380,5 +381,20 @@ impl Desk {
                 Pass { seat },
             )),
         }
+    }
+}
+
+/// The place at which a call is posted, by the reply that was recorded: the object's number, for a report that
+/// was answered by the object's standing. A call that wasn't recorded isn't posted.
+fn place_of(call: Call, recorded: Result<Reply, NoMemory>) -> Option<u32>
+    ensures ok { IfOk recorded (λ reply. result ≡ slot_of_reply call reply) }
+    ensures err { OnErr recorded (result ≡ None) }
+{
+    let Call::Report { object, .. } = call else {
+        return None;
+    };
+    match recorded {
+        Ok(Reply::Standing { .. }) => Some(object),
+        _ => None,
     }
 }

@@ -26,7 +26,7 @@ ghost use Rattle.check_sched.specs.declared.call.Call.TheVariants as call;
 ghost use Rattle.check_sched.specs.declared.call.Reply.{Reply};
 ghost use Rattle.check_sched.specs.declared.call.Reply.TheVariants as reply;
 ghost use Rattle.check_sched.specs.Runs.{begins, ends, runs_begun, runs_under};
-ghost use Rattle.check_sched.specs.State.{opening, run_number_of};
+ghost use Rattle.check_sched.specs.State.{State, opening, run_number_of};
 ghost use Rattle.check_sched.specs.Step.{step};
 ghost use Rattle.check_book.specs.BookState.{BookState};
 ghost use Rattle.check_book.specs.contracts.book.BookKept.TheImpl.{ghosts as kept_book};
@@ -129,33 +129,33 @@ pub fn headline()
         → length p.numbers ≡ s.numbers
         → calls_handled s.end.book ≡ p.calls + poster_count_of p.phase }
     ensures joined_legal { (setup : Configuration) (start : ℕ) (earlier : List (Entry Call Reply)) (room : ℕ)
-        → (s : Schedule BookState Call Reply) → IsScheduleAfter setup start earlier room s
+        → (s : Schedule BookState Call Reply) → IsScheduleAfter (opening setup start) earlier room s
         → IsLegal step (opening setup start) (earlier ++ s.end.book.entries) }
     ensures joined_state { (setup : Configuration) (start : ℕ) (earlier : List (Entry Call Reply)) (room : ℕ)
-        → (s : Schedule BookState Call Reply) → IsScheduleAfter setup start earlier room s
+        → (s : Schedule BookState Call Reply) → IsScheduleAfter (opening setup start) earlier room s
         → s.end.book.state.sched
         ≡ replay step (opening setup start) (earlier ++ s.end.book.entries) }
     ensures joined_once { (setup : Configuration) (start : ℕ) (earlier : List (Entry Call Reply)) (room : ℕ)
-        → (s : Schedule BookState Call Reply) → IsScheduleAfter setup start earlier room s
+        → (s : Schedule BookState Call Reply) → IsScheduleAfter (opening setup start) earlier room s
         → (front back : List (Entry Call Reply)) (e : Entry Call Reply) (object run other : ℕ)
         → earlier ++ s.end.book.entries ≡ front ++ e ∷ back → begins object run e ≡ true
         → runs_under object other front ≡ false }
     ensures joined_runs { (setup : Configuration) (start : ℕ) (earlier : List (Entry Call Reply)) (room : ℕ)
-        → (s : Schedule BookState Call Reply) → IsScheduleAfter setup start earlier room s
+        → (s : Schedule BookState Call Reply) → IsScheduleAfter (opening setup start) earlier room s
         → (front back : List (Entry Call Reply)) (e : Entry Call Reply) (object run : ℕ)
         → earlier ++ s.end.book.entries ≡ front ++ e ∷ back → begins object run e ≡ true
         → run ≡ runs_begun front + 1 }
     ensures later_entries { (setup : Configuration) (start : ℕ) (earlier : List (Entry Call Reply)) (room : ℕ)
-        → (s : Schedule BookState Call Reply) → IsScheduleAfter setup start earlier room s
+        → (s : Schedule BookState Call Reply) → IsScheduleAfter (opening setup start) earlier room s
         → (number : ℕ) → of number s.end.book.entries ≡ recorded_by number s.happenings }
     ensures later_strangers { (setup : Configuration) (start : ℕ) (earlier : List (Entry Call Reply)) (room : ℕ)
-        → (s : Schedule BookState Call Reply) → IsScheduleAfter setup start earlier room s
+        → (s : Schedule BookState Call Reply) → IsScheduleAfter (opening setup start) earlier room s
         → (number : ℕ) → s.numbers ≤ number → of number s.end.book.entries ≡ [] }
     ensures later_made { (setup : Configuration) (start : ℕ) (earlier : List (Entry Call Reply)) (room : ℕ)
-        → (s : Schedule BookState Call Reply) → IsScheduleAfter setup start earlier room s
+        → (s : Schedule BookState Call Reply) → IsScheduleAfter (opening setup start) earlier room s
         → calls_handled s.end.book ≡ calls_made s.happenings }
     ensures later_all { (setup : Configuration) (start : ℕ) (earlier : List (Entry Call Reply)) (room : ℕ)
-        → (s : Schedule BookState Call Reply) → IsScheduleAfter setup start earlier room s
+        → (s : Schedule BookState Call Reply) → IsScheduleAfter (opening setup start) earlier room s
         → (i : ℕ) (p : CoreSeat) → get_elem? s.end.seats i ≡ some p
         → length p.numbers ≡ s.numbers
         → calls_handled s.end.book ≡ p.calls + poster_count_of p.phase }
@@ -171,6 +171,11 @@ pub fn headline()
 ///   that were handed out before (`runs`).
 /// - The clauses about the schedule of the book's callers hold as in `headline` (`entries`, `strangers`,
 ///   `order`, `turn`, `turns`, `first_come`, `bypass`, `unstuck`, `made`, `all`).
+///
+/// A [renewed](check_book::Book::renew) book opens in such a state too, so the clauses about callers hold for
+/// it. `earlier`, a legal history from a state on that led to its opening, followed by its entries is one
+/// history from that state on. The first five clauses hold for it: `joined_legal`, `joined_state`,
+/// `joined_once`, `joined_out` and `joined_runs`.
 pub fn headline_from_any_state()
     ensures legal { (opened : BookState) (s : Schedule BookState Call Reply) → IsScheduleFrom opened s
         → IsLegal step opened.sched s.end.book.entries }
@@ -217,6 +222,27 @@ pub fn headline_from_any_state()
         → (i : ℕ) (p : CoreSeat) → get_elem? s.end.seats i ≡ some p
         → length p.numbers ≡ s.numbers
         → calls_handled s.end.book ≡ p.calls + poster_count_of p.phase }
+    ensures joined_legal { (from : State) (earlier : List (Entry Call Reply)) (room : ℕ)
+        → (s : Schedule BookState Call Reply) → IsScheduleAfter from earlier room s
+        → IsLegal step from (earlier ++ s.end.book.entries) }
+    ensures joined_state { (from : State) (earlier : List (Entry Call Reply)) (room : ℕ)
+        → (s : Schedule BookState Call Reply) → IsScheduleAfter from earlier room s
+        → s.end.book.state.sched ≡ replay step from (earlier ++ s.end.book.entries) }
+    ensures joined_once { (from : State) (earlier : List (Entry Call Reply)) (room : ℕ)
+        → (s : Schedule BookState Call Reply) → IsScheduleAfter from earlier room s
+        → (front back : List (Entry Call Reply)) (e : Entry Call Reply) (object run other : ℕ)
+        → earlier ++ s.end.book.entries ≡ front ++ e ∷ back → begins object run e ≡ true
+        → runs_under object other front ≡ false }
+    ensures joined_out { (from : State) (earlier : List (Entry Call Reply)) (room : ℕ)
+        → (s : Schedule BookState Call Reply) → IsScheduleAfter from earlier room s
+        → (front back : List (Entry Call Reply)) (e : Entry Call Reply) (object run other : ℕ)
+        → earlier ++ s.end.book.entries ≡ front ++ e ∷ back → begins object run e ≡ true
+        → run_number_of object from ≡ Some other → list_any (ends object other) front ≡ true }
+    ensures joined_runs { (from : State) (earlier : List (Entry Call Reply)) (room : ℕ)
+        → (s : Schedule BookState Call Reply) → IsScheduleAfter from earlier room s
+        → (front back : List (Entry Call Reply)) (e : Entry Call Reply) (object run : ℕ)
+        → earlier ++ s.end.book.entries ≡ front ++ e ∷ back → begins object run e ≡ true
+        → run ≡ from.runs + runs_begun front + 1 }
 {}
 
 /// A call that [`Desk::ask`](crate::Desk::ask) answered is a turn of the desk's schedule, after all calls that

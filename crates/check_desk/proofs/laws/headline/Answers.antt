@@ -32,14 +32,14 @@ returns c = record {
   strangers = λ setup start room s is number past. schedule_strangers kept_book s is.schedule number past;
   made = λ setup start room s is. sym (schedule_made kept_book s is.schedule);
   all = λ setup start room s is i p at stands_for_all. taken_by_one s is.schedule i p at stands_for_all;
-  joined_legal = λ setup start earlier room s is. legal_joined setup start earlier room s is;
-  joined_state = λ setup start earlier room s is. sched_joined setup start earlier room s is;
+  joined_legal = λ setup start earlier room s is. legal_joined (opening setup start) earlier room s is;
+  joined_state = λ setup start earlier room s is. sched_joined (opening setup start) earlier room s is;
   joined_once =
       λ setup start earlier room s is front back e object run other parts begun.
-      taken_once (opening setup start) front back e object run other (joined_parts setup start earlier room s is front back e parts) begun;
+      taken_once (opening setup start) front back e object run other (joined_parts (opening setup start) earlier room s is front back e parts) begun;
   joined_runs =
       λ setup start earlier room s is front back e object run parts begun.
-      taken_next (opening setup start) front back e object run refl (joined_parts setup start earlier room s is front back e parts) begun;
+      taken_next (opening setup start) front back e object run refl (joined_parts (opening setup start) earlier room s is front back e parts) begun;
   later_entries = λ setup start earlier room s is number. schedule_of kept_book s is.schedule number;
   later_strangers = λ setup start earlier room s is number past. schedule_strangers kept_book s is.schedule number past;
   later_made = λ setup start earlier room s is. sym (schedule_made kept_book s is.schedule);

@@ -4,7 +4,7 @@ use Rattle.ticket_steps.proofs.ScheduleLemmas.{schedule_made, schedule_of, sched
 use Rattle.ticket_steps.proofs.TurnLemmas.{first_come, schedule_bypass, schedule_goes_on, turn_entry}
 use Rattle.check_sched.proofs.PublicLaws.{taken_after, taken_number, taken_once}
 use Rattle.check_book.specs.contracts.book.BookKept.TheImpl.{ghosts as kept_book}
-use Rattle.check_desk.proofs.ScheduleLemmas.{from_parts, legal_from, sched_from, taken_by_one}
+use Rattle.check_desk.proofs.ScheduleLemmas.{from_parts, joined_parts, legal_from, legal_joined, sched_from, sched_joined, taken_by_one}
 use Rattle.check_desk.proofs.laws.headline_from_any_state.Goals as goal
 
 pub returns : goal.returns
@@ -31,4 +31,15 @@ returns c = record {
   strangers = λ opened s is number past. schedule_strangers kept_book s is.schedule number past;
   made = λ opened s is. sym (schedule_made kept_book s is.schedule);
   all = λ opened s is i p at stands_for_all. taken_by_one s is.schedule i p at stands_for_all;
+  joined_legal = λ from earlier room s is. legal_joined from earlier room s is;
+  joined_state = λ from earlier room s is. sched_joined from earlier room s is;
+  joined_once =
+      λ from earlier room s is front back e object run other parts begun.
+      taken_once from front back e object run other (joined_parts from earlier room s is front back e parts) begun;
+  joined_out =
+      λ from earlier room s is front back e object run other parts begun out.
+      taken_after from front back e object run other (joined_parts from earlier room s is front back e parts) begun out;
+  joined_runs =
+      λ from earlier room s is front back e object run parts begun.
+      taken_number from front back e object run (joined_parts from earlier room s is front back e parts) begun;
 }
