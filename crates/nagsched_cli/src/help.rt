@@ -80,13 +80,16 @@ Input after the setup, one call per line; moments and times in milliseconds:
   [\"enable\",name,on]              switches an object's active checks
   [\"status\",name]                 asks for the state of an object
   [\"save\"]                        asks for the state to save; isn't a call
+  [\"list\"]                        asks for all objects; isn't a call
 With --resume line 2 is a saved state, as `saved` wrote it without that word.
 
 Output, one line per call:
   taken RUN NAME        putoff TIME NAME        idle TIME        atlimit
   standing STATE KIND ATTEMPT CHANGED FLAP TIME NAME
   freed TIME NAME       done NAME               refused CODE WHY
-  saved STATE           the answer to `save`",
+  saved STATE           the answer to `save`
+  listed COUNT          the answer to `list`; COUNT lines follow it:
+  object STATE KIND ATTEMPT FLAP TIME RUN NAME",
     "\
 Example:
   printf '%s\\n' '{\"hosts\":[{\"name\":\"gateway\",\"max_check_attempts\":3}]}' \\

@@ -9,11 +9,10 @@ use Rattle.nagsched_protocol.specs.declared.input.TheConstants.{MAX_READ_BYTES}
 use Rattle.nagsched_protocol.specs.declared.drive_error.DriveError.{DriveError}
 use Rattle.nagsched_protocol.specs.declared.drive_error.DriveError.TheVariants as errors
 use Rattle.nagsched_protocol.specs.declared.outcome.Outcome.{Outcome}
-use Rattle.nagsched_jobs.specs.Drill.{AfterDrillFault, IsDrill, IsDrillOnInput, IsDrillWritten, IsTextOf, WroteDrill, WroteDrillFront, WroteDrillShort}
-use Rattle.nagsched_jobs.specs.Drill.{drill_outcome}
+use Rattle.nagsched_jobs.specs.Drill.{DrillEnded, IsDrill, IsDrillWritten, IsTextOf, LeavesDrill, WroteDrill, WroteDrillFront, WroteDrillShort, drill_outcome}
 use Rattle.nagsched_protocol.specs.DrillScript.{DrillScript, drill_script_of}
 use Rattle.nagsched_protocol.specs.declared.refusal.InputRefusal.{InputRefusal}
-use Rattle.nagsched_protocol.specs.Streams.{HasRead, outcome_by}
+use Rattle.nagsched_protocol.specs.Streams.{HasRead, outcome_by, streams}
 use Rattle.nagsched_protocol.specs.Text.{drill_text, refusal_line}
 use Rattle.nagsched_protocol.specs.Written.{IsTextWritten}
 use Rattle.nagsched_protocol.proofs.ReadLemmas.{drill_script_take, has_read, input_of, input_of-is}
@@ -53,92 +52,12 @@ pub wrote_none : (e : DriveError) (start workers room : ℕ) (input : List ℕ) 
 wrote_none e start workers room input held is =
     rw is (record { written = tt; front = inl (Keeps-same held); kind = λ q. cc; short = λ q. inl (Keeps-same held) })
 
--- ---- what was read is the input, or its prefix that is too long
-
-text_at : (start workers room : ℕ) (input bytes text : List ℕ) → input ≡ take MAX_READ_BYTES bytes → IsTextOf start workers room input text
-    → IsTextOf start workers room bytes text
-text_at start workers room input bytes text e t = rw (ap drill_script_of e ∙ drill_script_take bytes) at t
-
-wrote_at : (start workers room : ℕ) (held mid holds : Option (List ℕ)) (input bytes : List ℕ) → input ≡ take MAX_READ_BYTES bytes
-    → WroteDrill start workers room input held mid → Keeps mid holds
-    → WroteDrill start workers room bytes held holds
-wrote_at start workers room held mid holds input bytes e w k =
-    record { text = w.text; is_text = text_at start workers room input bytes w.text e w.is_text; written = Appends-Keeps held mid holds w.text w.written k }
-
-front_at : (start workers room : ℕ) (held holds : Option (List ℕ)) (input bytes : List ℕ) → input ≡ take MAX_READ_BYTES bytes
-    → WroteDrillFront start workers room input held holds
-    → WroteDrillFront start workers room bytes held holds
-front_at start workers room held holds input bytes e w =
-    record { text = w.text; is_text = text_at start workers room input bytes w.text e w.is_text; written = w.written }
-
--- what is missing from a text on what was read is missing from one on the input
-pub drill_short_at : (start workers room : ℕ) (had held holds : Option (List ℕ)) (input : List ℕ) → IfSome had (λ bytes. input ≡ take MAX_READ_BYTES bytes)
-    → WroteDrillShort start workers room input held holds → IfSome had (λ bytes. WroteDrillShort start workers room bytes held holds)
-drill_short_at start workers room None held holds input all w = tt
-drill_short_at start workers room (Some bytes) held holds input all (inl k) = inl k
-drill_short_at start workers room (Some bytes) held holds input all (inr w) = inr (record {
-  text = w.text;
-  is_text = text_at start workers room input bytes w.text all w.is_text;
-  rest = w.rest;
-  is_missing = w.is_missing;
-  written = w.written;
-})
-
--- ---- faults
-
-pub drill_read_fault : (e : DriveError) (start workers room : ℕ) (had left held : Option (List ℕ)) → e ≢ errors.Write
-    → AfterDrillFault e start workers room had left held held
-drill_read_fault errors.Read start workers room had left held n = Keeps-same held
-drill_read_fault errors.Write start workers room had left held n = absurd (n refl)
-drill_read_fault errors.Memory start workers room None left held n = tt
-drill_read_fault errors.Memory start workers room (Some bytes) left held n = inl (Keeps-same held)
-
-left_by : (start workers room : ℕ) (left held holds : Option (List ℕ)) (input bytes : List ℕ) → input ≡ take MAX_READ_BYTES bytes
-    → Consumes (Some bytes) left input
-    → Keeps held holds ⊎ WroteDrillFront start workers room input held holds
-    → Keeps held holds ⊎ (HasRead (Some bytes) left bytes × WroteDrillFront start workers room bytes held holds)
-left_by start workers room left held holds input bytes all c (inl k) = inl k
-left_by start workers room left held holds input bytes all c (inr f) =
-    inr (has_read left input bytes all c, front_at start workers room held holds input bytes all f)
-
-pub drill_write_fault : (e : DriveError) (start workers room : ℕ) (had left held holds : Option (List ℕ)) (input : List ℕ) → e ≢ errors.Read
-    → IfSome had (λ bytes. input ≡ take MAX_READ_BYTES bytes)
-    → Consumes had left input → Keeps held holds ⊎ WroteDrillFront start workers room input held holds
-    → AfterDrillFault e start workers room had left held holds
-drill_write_fault errors.Read start workers room had left held holds input n all c f = absurd (n refl)
-drill_write_fault errors.Write start workers room None left held holds input n all c f = tt
-drill_write_fault errors.Write start workers room (Some bytes) left held holds input n all c f = left_by start workers room left held holds input bytes all c f
-drill_write_fault errors.Memory start workers room None left held holds input n all c f = tt
-drill_write_fault errors.Memory start workers room (Some bytes) left held holds input n all c f = left_by start workers room left held holds input bytes all c f
-
--- ---- whole drills
-
-pub drill_written : (start workers room : ℕ) (had held mid holds : Option (List ℕ)) (input : List ℕ) → IfSome had (λ bytes. input ≡ take MAX_READ_BYTES bytes)
-    → WroteDrill start workers room input held mid → Keeps mid holds → IfSome had (λ bytes. WroteDrill start workers room bytes held holds)
-drill_written start workers room None held mid holds input all w k = tt
-drill_written start workers room (Some bytes) held mid holds input all w k = wrote_at start workers room held mid holds input bytes all w k
-
-pub drill_outcome_is : (had : Option (List ℕ)) (given : Outcome) (input : List ℕ) → IfSome had (λ bytes. input ≡ take MAX_READ_BYTES bytes)
-    → given ≡ drill_outcome input
-    → IfSome had (λ bytes. given ≡ drill_outcome bytes)
-drill_outcome_is None given input all g = tt
-drill_outcome_is (Some bytes) given input all g = g ∙ ap outcome_by (ap drill_script_of all ∙ drill_script_take bytes)
-
-written_front : (start workers room : ℕ) (input : List ℕ) (held mid holds : Option (List ℕ)) → WroteDrill start workers room input held mid → Keeps mid holds
-    → WroteDrillFront start workers room input held holds
-written_front start workers room input held mid holds w k =
-    record { text = w.text; is_text = w.is_text; written = front_all held holds w.text (Appends-Keeps held mid holds w.text w.written k) }
-
--- the flush failed
-pub drill_flush_fault : (e : DriveError) (start workers room : ℕ) (had left held mid holds : Option (List ℕ)) (input : List ℕ)
-    → IfSome had (λ bytes. input ≡ take MAX_READ_BYTES bytes)
-    → Consumes had left input → WroteDrill start workers room input held mid → Keeps mid holds → e ≡ errors.Write
-    → AfterDrillFault e start workers room had left held holds
-drill_flush_fault e start workers room had left held mid holds input all c w k u =
-    rw u (drill_write_fault errors.Write start workers room had left held holds input
-    (λ q. cc) all c (inr (written_front start workers room input held mid holds w k)))
-
 -- ---- the input of a drill, whatever is known of its reader
+
+left_of : (had left : Option (List ℕ)) (read : List ℕ) → IfSome had (λ bytes. read ≡ take MAX_READ_BYTES bytes) → Consumes had left read
+    → IfSome had (HasRead had left)
+left_of None left read all c = tt
+left_of (Some bytes) left read all c = has_read left read bytes all c
 
 input_of-script : (had : Option (List ℕ)) (read : List ℕ) → IfSome had (λ bytes. read ≡ take MAX_READ_BYTES bytes)
     → drill_script_of read ≡ drill_script_of (input_of had read)
@@ -146,57 +65,80 @@ input_of-script None read all = refl
 input_of-script (Some bytes) read all = ap drill_script_of all ∙ drill_script_take bytes
 
 text_of_read : (start workers room : ℕ) (had : Option (List ℕ)) (read text : List ℕ) → IfSome had (λ bytes. read ≡ take MAX_READ_BYTES bytes)
-    → IsTextOf start workers room read text
-    → IsTextOf start workers room (input_of had read) text
+    → IsTextOf start workers room read text → IsTextOf start workers room (input_of had read) text
 text_of_read start workers room had read text all t = rw (input_of-script had read all) at t
 
-front_of_read : (start workers room : ℕ) (had held holds : Option (List ℕ)) (read : List ℕ) → IfSome had (λ bytes. read ≡ take MAX_READ_BYTES bytes)
-    → Keeps held holds ⊎ WroteDrillFront start workers room read held holds
-    → Keeps held holds ⊎ WroteDrillFront start workers room (input_of had read) held holds
-front_of_read start workers room had held holds read all (inl k) = inl k
-front_of_read start workers room had held holds read all (inr f) =
-    inr (record { text = f.text; is_text = text_of_read start workers room had read f.text all f.is_text; written = f.written })
+-- ---- whole drills
 
--- a drill that nothing was written in
-pub unwritten_drill : (e : DriveError) (start workers room : ℕ) (had held : Option (List ℕ)) → IsDrillOnInput start workers room (Err e) had held held
-unwritten_drill e start workers room had held =
-    record { input = input_of had []; is_input = input_of-is had []; outcome_is = tt; written = tt; front = inl (Keeps-same held) }
+-- an error ended the drill before anything was written
+pub unread_drill : (e : DriveError) (start workers room : ℕ) (had left held : Option (List ℕ)) → e ≢ errors.Write
+    → DrillEnded start workers room (Err e) (streams had left held held)
+unread_drill e start workers room had left held n =
+    record { input = input_of had []; is_input = input_of-is had []; outcome_is = tt; written = tt; read = tt; fault = leaves e n }
+  where
+    leaves : (e : DriveError) → e ≢ errors.Write → LeavesDrill e start workers room (input_of had []) (streams had left held held)
+    leaves errors.Read n = Keeps-same held
+    leaves errors.Write n = absurd (n refl)
+    leaves errors.Memory n = inl (Keeps-same held)
 
--- a drill that an error ended when its input had been read
-pub cut_drill : (e : DriveError) (start workers room : ℕ) (had held holds : Option (List ℕ)) (read : List ℕ)
-    → IfSome had (λ bytes. read ≡ take MAX_READ_BYTES bytes)
-    → Keeps held holds ⊎ WroteDrillFront start workers room read held holds → IsDrillOnInput start workers room (Err e) had held holds
-cut_drill e start workers room had held holds read all f =
-    record {
-      input = input_of had read;
-      is_input = input_of-is had read;
-      outcome_is = tt;
-      written = tt;
-      front = front_of_read start workers room had
-          held holds read all f;
-    }
+module _ (start workers room : ℕ) (had left held : Option (List ℕ)) (read : List ℕ) (all : IfSome had (λ bytes. read ≡ take MAX_READ_BYTES bytes))
+    (consumed : Consumes had left read) where
+  front_left : (holds : Option (List ℕ)) → Keeps held holds ⊎ WroteDrillFront start workers room read held holds
+      → LeavesDrill errors.Write start workers room (input_of had read) (streams had left held holds)
+  front_left holds (inl kept) = inl kept
+  front_left holds (inr w) =
+      inr (
+        left_of had left read all consumed,
+        record { text = w.text; is_text = text_of_read start workers room had read w.text all w.is_text; written = w.written },
+      )
 
--- a drill that came to its flush, which failed
-pub unflushed_drill : (e : DriveError) (start workers room : ℕ) (had held mid holds : Option (List ℕ)) (read : List ℕ)
-    → IfSome had (λ bytes. read ≡ take MAX_READ_BYTES bytes)
-    → WroteDrill start workers room read held mid → Keeps mid holds → IsDrillOnInput start workers room (Err e) had held holds
-unflushed_drill e start workers room had held mid holds read all w k =
-    cut_drill e start workers room had held holds read all (inr (written_front start workers room read held mid holds w k))
+  part_left : (holds : Option (List ℕ)) → WroteDrillShort start workers room read held holds
+      → LeavesDrill errors.Memory start workers room (input_of had read) (streams had left held holds)
+  part_left holds (inl kept) = inl kept
+  part_left holds (inr w) =
+      inr (
+        left_of had left read all consumed,
+        record {
+          text = w.text;
+          is_text = text_of_read start workers room had read w.text all w.is_text;
+          rest = w.rest;
+          is_missing = w.is_missing;
+          written = w.written;
+        },
+      )
 
--- a drill that came to its end
-pub flushed_drill : (start workers room : ℕ) (had held mid holds : Option (List ℕ)) (given : Outcome) (read : List ℕ)
-    → IfSome had (λ bytes. read ≡ take MAX_READ_BYTES bytes)
-    → WroteDrill start workers room read held mid → Keeps mid holds → given ≡ drill_outcome read → IsDrillOnInput start workers room (Ok given) had held holds
-flushed_drill start workers room had held mid holds given read all w k g = record {
-  input = input_of had read;
-  is_input = input_of-is had read;
-  outcome_is = g ∙ ap outcome_by (input_of-script had read all);
-  written =
-      record {
-        text = w.text;
-        is_text = text_of_read start workers room had read w.text all w.is_text;
-        written = Appends-Keeps held mid holds w.text
-            w.written k;
-      };
-  front = tt;
-}
+  ended_by : (e : DriveError) (holds : Option (List ℕ)) → LeavesDrill e start workers room (input_of had read) (streams had left held holds)
+      → DrillEnded start workers room (Err e) (streams had left held holds)
+  ended_by e holds leaves =
+      record { input = input_of had read; is_input = input_of-is had read; outcome_is = tt; written = tt; read = tt; fault = leaves }
+
+  -- an error ended it when its input had been read
+  pub cut_drill : (e : DriveError) (holds : Option (List ℕ)) → IsDrillWritten start workers room read (Err e) held holds
+      → DrillEnded start workers room (Err e) (streams had left held holds)
+  cut_drill errors.Read holds w = absurd (w.kind refl)
+  cut_drill errors.Write holds w = ended_by errors.Write holds (front_left holds w.front)
+  cut_drill errors.Memory holds w = ended_by errors.Memory holds (part_left holds (w.short refl))
+
+  -- it came to its flush, which failed
+  pub unflushed_drill : (e : DriveError) (mid holds : Option (List ℕ)) → WroteDrill start workers room read held mid → Keeps mid holds → e ≡ errors.Write
+      → DrillEnded start workers room (Err e) (streams had left held holds)
+  unflushed_drill e mid holds w kept is =
+      let front : WroteDrillFront start workers room read held holds =
+      record { text = w.text; is_text = w.is_text; written = front_all held holds w.text (Appends-Keeps held mid holds w.text w.written kept) } in
+      rw is (ended_by errors.Write holds (front_left holds (inr front)))
+
+  -- it came to its end
+  pub flushed_drill : (given : Outcome) (mid holds : Option (List ℕ)) → WroteDrill start workers room read held mid → Keeps mid holds
+      → given ≡ drill_outcome read → DrillEnded start workers room (Ok given) (streams had left held holds)
+  flushed_drill given mid holds w kept is = record {
+    input = input_of had read;
+    is_input = input_of-is had read;
+    outcome_is = is ∙ ap outcome_by (input_of-script had read all);
+    written = record {
+      text = w.text;
+      is_text = text_of_read start workers room had read w.text all w.is_text;
+      written = Appends-Keeps held mid holds w.text w.written kept;
+    };
+    read = left_of had left read all consumed;
+    fault = tt;
+  }

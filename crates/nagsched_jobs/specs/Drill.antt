@@ -1,5 +1,5 @@
 -- The history that the workers of a drill leave, and the text that a drill writes.
-use Rattle.std.specs.Prelude.{◌≡◌, ◌≢◌, ◌⊎◌, ℕ, ◌+◌, ◌<◌, ◌≤◌, ⊤, List, [], ◌∷◌, filter_map, length, Option, Some, None, Result, Ok, Err, IfErr, IfOk, IfSome}
+use Rattle.std.specs.Prelude.{◌≡◌, ◌≢◌, ◌⊎◌, ℕ, ◌+◌, ◌<◌, ◌≤◌, ⊤, List, [], ◌∷◌, filter_map, length, Option, Result, Ok, Err, IfErr, IfOk, IfSome}
 use Rattle.std.specs.Prelude.{OnErr, OnOk}
 use Rattle.std.specs.Io.KnownBytes.{Appends, Keeps}
 use Rattle.ticket_steps.specs.declared.books.Entry.{Entry}
@@ -110,26 +110,20 @@ pub record IsDrillWritten (start workers room : ℕ) (input : List ℕ) (ended :
   pub short : IfErr ended (λ e. e ≡ errors.Memory → WroteDrillShort start workers room input held holds)
 
 -- The output that an error of a drill leaves. After a fault of the reader it is nothing. After any other error it is nothing, or the input was read and
--- the output is a prefix of a text that a drill can write on it.
-abbrev pub AfterDrillFault : DriveError → ℕ → ℕ → ℕ → Option (List ℕ) → Option (List ℕ) → Option (List ℕ) → Option (List ℕ) → Type 0
-AfterDrillFault errors.Read start workers room had left held holds = Keeps held holds
-AfterDrillFault e start workers room None left held holds = ⊤
-AfterDrillFault e start workers room (Some input) left held holds =
-    Keeps held holds ⊎ (HasRead (Some input) left input × WroteDrillFront start workers room input held holds)
+-- the output is a prefix of a text that a drill can write on it; out of memory the prefix is whole lines, and not all of the text.
+abbrev pub LeavesDrill : DriveError → ℕ → ℕ → ℕ → List ℕ → Streams → Type 0
+LeavesDrill errors.Read start workers room input io = Keeps io.held io.holds
+LeavesDrill errors.Write start workers room input io =
+    Keeps io.held io.holds ⊎ (IfSome io.had (HasRead io.had io.left) × WroteDrillFront start workers room input io.held io.holds)
+LeavesDrill errors.Memory start workers room input io =
+    Keeps io.held io.holds ⊎ (IfSome io.had (HasRead io.had io.left) × WroteDrillPart start workers room input io.held io.holds)
 
 -- A drill that ended like this is a drill on one input, even if the reader and the writer aren't known. It let workers work over that input or refused
--- it, and wrote such a text on it. After an error it wrote nothing or a prefix of such a text.
-pub record IsDrillOnInput (start workers room : ℕ) (ended : Result Outcome DriveError) (had held holds : Option (List ℕ)) : Type 0 where
-  pub input : List ℕ
-  pub is_input : IsInput had input
-  pub outcome_is : IfOk ended (λ outcome. outcome ≡ drill_outcome input)
-  pub written : OnOk ended (WroteDrill start workers room input held holds)
-  pub front : OnErr ended (Keeps held holds ⊎ WroteDrillFront start workers room input held holds)
-
--- all that is known about how a drill ended
+-- it, and wrote such a text on it.
 pub record DrillEnded (start workers room : ℕ) (ended : Result Outcome DriveError) (io : Streams) : Type 0 where
-  pub input : IsDrillOnInput start workers room ended io.had io.held io.holds
+  pub input : List ℕ
+  pub is_input : IsInput io.had input
+  pub outcome_is : IfOk ended (λ outcome. outcome ≡ drill_outcome input)
+  pub written : OnOk ended (WroteDrill start workers room input io.held io.holds)
   pub read : OnOk ended (IfSome io.had (HasRead io.had io.left))
-  -- the output that an error leaves; out of memory it is never the whole text
-  pub fault : IfErr ended (λ e. AfterDrillFault e start workers room io.had io.left io.held io.holds)
-  pub memory : IfErr ended (λ e. e ≡ errors.Memory → IfSome io.had (λ input. WroteDrillShort start workers room input io.held io.holds))
+  pub fault : IfErr ended (λ e. LeavesDrill e start workers room input io)

@@ -1,16 +1,15 @@
 //! A drill: reads a setup, return codes and moments, lets many workers work on one scheduler, and
 //! writes the history that they made.
 
-ghost use Rattle.std.specs.Prelude.{◌≡◌, ◌<◌, ◌≤◌, OnOk, IfOk, IfErr, IfSome, length};
+ghost use Rattle.std.specs.Prelude.{◌≡◌, ◌<◌, ◌≤◌, IfOk, IfErr, length};
 ghost use Rattle.std.specs.List.{All};
 ghost use Rattle.check_book.specs.BookState.{book_opening};
 ghost use Rattle.check_book.specs.Books.{entries_of, refused_of, sched_of};
 ghost use Rattle.check_desk.specs.Desks.{AreNewPasses, IsPassOf, desk_opening, passes_of};
-ghost use Rattle.nagsched_jobs.specs.Drill.{AfterDrillFault, IsDrill, IsDrillOnInput, IsDrillWritten};
-ghost use Rattle.nagsched_jobs.specs.Drill.{WroteDrill, WroteDrillShort, drill_outcome};
+ghost use Rattle.nagsched_jobs.specs.Drill.{DrillEnded, IsDrill, IsDrillWritten, drill_outcome};
 ghost use Rattle.nagsched_protocol.specs.DrillScript.{drill_script_of};
 ghost use Rattle.nagsched_protocol.specs.DrillScripted.{drill_script};
-ghost use Rattle.nagsched_protocol.specs.Streams.{HasRead};
+ghost use Rattle.nagsched_protocol.specs.Streams.{streams};
 ghost use Rattle.nagsched_protocol.specs.Text.{drill_text, entry_line, total_line};
 ghost use Rattle.nagsched_protocol.specs.Written.{IsLineWritten, IsTextWritten};
 
@@ -58,20 +57,9 @@ pub fn drill<H: Threads + Wait + Sync, R: Read, W: Write>(
 ) -> Ended
     requires start { start ≤ LAST_MOMENT }
     requires workers { (0 < workers) × (workers ≤ 64) }
-    ensures written { OnOk result (IfSome (R.remaining reader.old) (λ input.
-        WroteDrill start workers room input (W.contents writer.old) (W.contents writer.new))) }
-    ensures outcome { IfOk result (λ outcome.
-        IfSome (R.remaining reader.old) (λ input. outcome ≡ drill_outcome input)) }
-    ensures read { OnOk result (IfSome (R.remaining reader.old)
-        (HasRead (R.remaining reader.old) (R.remaining reader.new))) }
-    ensures fault { IfErr result (λ e.
-        AfterDrillFault e start workers room (R.remaining reader.old) (R.remaining reader.new)
+    ensures { DrillEnded start workers room result
+        (streams (R.remaining reader.old) (R.remaining reader.new)
         (W.contents writer.old) (W.contents writer.new)) }
-    ensures memory { IfErr result (λ e. e ≡ DriveError.Memory
-        → IfSome (R.remaining reader.old) (λ input. WroteDrillShort start workers room input
-        (W.contents writer.old) (W.contents writer.new))) }
-    ensures input { IsDrillOnInput start workers room result (R.remaining reader.old)
-        (W.contents writer.old) (W.contents writer.new) }
 {
     let input = read_at_most(alloc, reader, MAX_READ_BYTES)?;
     let outcome = answer(rt, alloc, start, workers, room, &input, writer)?;

@@ -9,7 +9,7 @@ use Rattle.serde_json.specs.View.{items_view}
 use Rattle.serde_json.specs.declared.value.Value.{Value}
 use Rattle.check_objects.specs.JsonTree.{tree_of}
 use Rattle.check_objects.specs.Configuration.{Configuration}
-use Rattle.nagsched_protocol.specs.Command.{call_by, one_of, save_command, take_call, three_of, two_of}
+use Rattle.nagsched_protocol.specs.Command.{call_by, list_command, one_of, save_command, take_call, three_of, two_of}
 use Rattle.nagsched_protocol.specs.declared.refusal.InputRefusal.{InputRefusal}
 use Rattle.nagsched_protocol.specs.declared.refusal.LineFault.TheVariants as fault
 
@@ -37,6 +37,11 @@ take_members (v ∷ w ∷ vs) h = refl
 pub save_members : (vs : List Value) → 1 ≤ length vs → save_command (items_view vs) ≡ Err fault.Shape
 save_members [] h = absurd (omega arith)
 save_members (v ∷ vs) h = refl
+
+-- nor has `list`
+pub list_members : (vs : List Value) → 1 ≤ length vs → list_command (items_view vs) ≡ Err fault.Shape
+list_members [] h = absurd (omega arith)
+list_members (v ∷ vs) h = refl
 
 -- the same of the members beside other words: one, two or three
 

@@ -11,3 +11,4 @@ pub mod WrittenLemmas
 pub mod TextLemmas
 pub mod LiveLaws
 pub mod NameLengthLemmas
+pub mod FlatLemmas

@@ -1,10 +1,12 @@
 -- The text of a run, call by call, and of a history, entry by entry.
-use Rattle.std.proofs.Common.{◌≡◌, ℕ, List, [], ◌∷◌, ◌++◌, refl, ap, ◌∙◌, append_assoc, append-nil, sym, arith, drop, length, ◌+◌, ◌≤◌, ◌<◌, get_or}
+use Rattle.std.proofs.Common.{◌≡◌, ℕ, suc, zero, List, [], ◌∷◌, ◌++◌, refl, ap, ◌∙◌, append_assoc, append-nil, sym, arith, drop, length, ◌+◌, ◌≤◌, ◌<◌, get_or}
 use Rattle.std.specs.Prelude.{codes, decimal, flat_map}
 use Rattle.check_saved_state.specs.Text.{saved_text}
 use Rattle.check_sched.specs.Saved.{saved_of}
 use Rattle.std.proofs.lemmas.Grind.{common_steps}
-use Rattle.std.proofs.lemmas.List.{drop_all}
+use Rattle.std.specs.List.{range_with_len}
+use Rattle.std.proofs.lemmas.List.{drop_all, flat_map_more, map-id}
+use Rattle.std.proofs.lemmas.List.FromFn.{map-range_with_len_more}
 use Rattle.ticket_steps.specs.declared.books.Entry.{Entry}
 use Rattle.check_objects.specs.Configuration.{Configuration}
 use Rattle.check_sched.specs.State.{State}
@@ -15,12 +17,16 @@ use Rattle.nagsched_protocol.specs.declared.command.RunCommand.TheVariants as co
 use Rattle.check_sched.specs.declared.call.Call.{Call}
 use Rattle.check_sched.specs.declared.call.Reply.{Reply}
 use Rattle.nagsched_protocol.specs.Output.{EndsLine}
-use Rattle.nagsched_protocol.specs.Text.{answer_line, text_from, entry_line, reply_text, saved_line, state_after_command, total_line, total_text}
+use Rattle.check_objects.specs.Configuration.{name_of, object_count}
+use Rattle.check_sched.specs.State.{next_of, run_number_of, standing_at}
+use Rattle.nagsched_protocol.specs.Text.{answer_line, text_from, entry_line, line_of, list_lines, listed_line, listed_text, reply_text, saved_line}
+use Rattle.nagsched_protocol.specs.Text.{state_after_command, total_line, total_text}
 
 -- a command leaves the setup
 pub command_keeps : (s : State) (c : RunCommand) → (state_after_command s c).setup ≡ s.setup
 command_keeps s (command.Call call) = (step_keeps s call).setup
 command_keeps s command.Save = refl
+command_keeps s command.List = refl
 
 -- the text goes on with the line of the next command's answer
 pub text_next : (s : State) (cs : List RunCommand) (i : ℕ) (d : RunCommand) → i < length cs
@@ -45,12 +51,32 @@ pub entries_end : (c : Configuration) (es : List (Entry Call Reply)) (i : ℕ) (
     → flat_map (entry_line c) (drop i es) ++ total ≡ total ++ []
 entries_end c es i total h = ap (λ l. flat_map (entry_line c) l ++ total) (drop_all i es h) ∙ sym (append-nil total)
 
+-- ---- the lines of all objects
+
+range_more : (n : ℕ) → range_with_len 0 (n + 1) ≡ range_with_len 0 n ++ n ∷ []
+range_more n =
+    sym (map-id (range_with_len 0 (n + 1))) ∙ map-range_with_len_more (λ k. k) 0 n n (omega arith) ∙ ap (λ l. l ++ n ∷ []) (map-id (range_with_len 0 n))
+
+-- the lines go on with the next object's
+pub listed_more : (f : ℕ → List ℕ) (n : ℕ) (head was more : List ℕ) → more ≡ was ++ f n → was ≡ head ++ flat_map f (range_with_len 0 n)
+    → more ≡ head ++ flat_map f (range_with_len 0 (n + 1))
+listed_more f n head was more pushed before =
+    pushed ∙ ap (λ l. l ++ f n) before ∙ flat_map_more f head (range_with_len 0 n) n ∙ ap (λ l. head ++ flat_map f l) (sym (range_more n))
+
+-- a line, and the lines of objects after it
+listed_ends : (s : State) (k a : ℕ) (first : List ℕ) → EndsLine (line_of first ++ flat_map (listed_line s) (range_with_len a k))
+listed_ends s zero a first = (first, append-nil (line_of first))
+listed_ends s (suc k) a first =
+    let rest = listed_ends s k (a + 1) (listed_text (standing_at s.standings a) (next_of a s) (run_number_of a s) (name_of s.setup a)) in
+    (line_of first ++ rest.0, ap (λ l. line_of first ++ l) rest.1 ∙ sym (append_assoc (line_of first) rest.0 (10 ∷ [])))
+
 -- ---- each line ends with its line feed
 
 pub answer_line_ends : (s : State) (c : RunCommand) → EndsLine (answer_line s c)
-unfolding saved_line
+unfolding saved_line list_lines
 answer_line_ends s (command.Call call) = (reply_text s.setup call (step s call).1, refl)
 answer_line_ends s command.Save = (codes "saved " ++ saved_text (saved_of s), refl)
+answer_line_ends s command.List = listed_ends s (object_count s.setup) 0 (codes "listed " ++ decimal (object_count s.setup))
 
 pub entry_line_ends : (c : Configuration) (e : Entry Call Reply) → EndsLine (entry_line c e)
 entry_line_ends c e =

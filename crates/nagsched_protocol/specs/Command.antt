@@ -90,6 +90,11 @@ abbrev pub save_command : Items → Result RunCommand LineFault
 save_command no_items = Ok command.Save
 save_command members = Err fault.Shape
 
+-- `["list"]`: all objects
+abbrev pub list_command : Items → Result RunCommand LineFault
+list_command no_items = Ok command.List
+list_command members = Err fault.Shape
+
 -- ---- all words
 
 -- the call of a word with these members after it
@@ -101,7 +106,7 @@ call_by c word members = if bytes_eq word (codes "take") then take_call members
     else (if bytes_eq word (codes "enable") then enable_call c members
     else (if bytes_eq word (codes "status") then status_call c members else Err fault.Shape)))))
 
--- the command of a word with these members after it: to save, or a call
+-- the command of a word with these members after it: to save, to list, or a call
 abbrev pub command_by : Configuration → List ℕ → Items → Result RunCommand LineFault
-command_by c word members =
-    if bytes_eq word (codes "save") then save_command members else (call_by c word members >>= λ made. Ok (command.Call made))
+command_by c word members = if bytes_eq word (codes "save") then save_command members
+    else (if bytes_eq word (codes "list") then list_command members else (call_by c word members >>= λ made. Ok (command.Call made)))

@@ -4,6 +4,7 @@ pub mod LiveError
 pub mod Script
 pub mod Streams
 pub mod Line
+pub mod FlatLine
 pub mod Command
 pub mod DrillCommand
 pub mod DrillCommanded

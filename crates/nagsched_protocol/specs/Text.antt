@@ -1,7 +1,8 @@
 -- The text that a run writes: a function of how its scheduler starts and of the input. The wording of each line is defined once, here.
 use Rattle.std.specs.Prelude.{ℕ, Bool, true, false, if◌then◌else◌, List, [], ◌∷◌, ◌++◌, Option, Some, None, Result, Ok, Err, codes, decimal, flat_map, length}
+use Rattle.std.specs.List.{range_with_len}
 use Rattle.ticket_steps.specs.declared.books.Entry.{Entry}
-use Rattle.check_objects.specs.Configuration.{Configuration, name_of}
+use Rattle.check_objects.specs.Configuration.{Configuration, name_of, object_count}
 use Rattle.setup_model.specs.declared.error.LoadError.{LoadError}
 use Rattle.setup_model.specs.declared.place.Place.{Place}
 use Rattle.setup_model.specs.LoadError.{error_reason, place_of}
@@ -19,7 +20,7 @@ use Rattle.check_saved_state.specs.Words.{flapping_word}
 use Rattle.check_saved_state.specs.declared.fault.SavedFault.{SavedFault}
 use Rattle.check_saved_state.specs.declared.fault.SavedFault.TheVariants as saved
 use Rattle.check_sched.specs.Saved.{saved_of}
-use Rattle.check_sched.specs.State.{State}
+use Rattle.check_sched.specs.State.{State, next_of, run_number_of, standing_at}
 use Rattle.check_sched.specs.Step.{step}
 use Rattle.nagsched_protocol.specs.declared.command.RunCommand.{RunCommand}
 use Rattle.nagsched_protocol.specs.declared.command.RunCommand.TheVariants as command
@@ -34,7 +35,7 @@ use Rattle.nagsched_protocol.specs.Script.{Script, script_of}
 abbrev pub line_of : List ℕ → List ℕ
 line_of text = text ++ 10 ∷ []
 
--- a time in milliseconds, or `none`
+-- a number, as a time in milliseconds, or `none`
 abbrev pub time_text : Option ℕ → List ℕ
 time_text (Some time) = decimal time
 time_text None = codes "none"
@@ -170,15 +171,31 @@ line_from s c = reply_line s.setup c (step s c).1
 unfoldable pub saved_line : State → List ℕ
 saved_line s = line_of (codes "saved " ++ saved_text (saved_of s))
 
--- The line of the answer to a command, in this state: the line of the reply to a call, or for `save` the line of the state itself.
+-- the standing of the object with this full name, the time of its next check, and the number of the run under which it is being checked
+abbrev pub listed_text : Standing → Option ℕ → Option ℕ → List ℕ → List ℕ
+listed_text s next run name = codes "object " ++ (state_text s ++ (codes " " ++ (kind_word s.kind ++ (codes " " ++ (decimal s.attempt ++ (codes " " ++
+    (flapping_word s.flapping ++ (codes " " ++ (time_text next ++ (codes " " ++ (time_text run ++ (codes " " ++ name))))))))))))
+
+-- the line of the object with this number, in this state
+abbrev pub listed_line : State → ℕ → List ℕ
+listed_line s number = line_of (listed_text (standing_at s.standings number) (next_of number s) (run_number_of number s) (name_of s.setup number))
+
+-- The lines of all objects in this state: the number of objects, and then each object by number.
+unfoldable pub list_lines : State → List ℕ
+list_lines s = line_of (codes "listed " ++ decimal (object_count s.setup)) ++ flat_map (listed_line s) (range_with_len 0 (object_count s.setup))
+
+-- The answer to a command, in this state: the line of the reply to a call, for `save` the line of the state itself, and for `list` the lines of all
+-- objects.
 abbrev pub answer_line : State → RunCommand → List ℕ
 answer_line s (command.Call call) = line_from s call
 answer_line s command.Save = saved_line s
+answer_line s command.List = list_lines s
 
--- the state after the command: `save` leaves it as it is
+-- the state after the command: `save` and `list` leave it as it is
 abbrev pub state_after_command : State → RunCommand → State
 state_after_command s (command.Call call) = (step s call).0
 state_after_command s command.Save = s
+state_after_command s command.List = s
 
 -- the lines of the answers to the commands, from this state on
 abbrev pub text_from : State → List RunCommand → List ℕ

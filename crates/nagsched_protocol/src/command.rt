@@ -1,19 +1,21 @@
-//! The words of `run`: the calls of a script, and `save`. Each word has one function here and one
+//! The words of `run`: the calls of a script, `save` and `list`. Each word has one function here and one
 //! definition in `specs/Command.antt`.
 
 ghost use Rattle.std.specs.Prelude.{◌≡◌, option_map, Err};
 ghost use Rattle.serde_json.specs.View.{items_view};
-ghost use Rattle.nagsched_protocol.specs.Command.{command_by, save_command};
+ghost use Rattle.nagsched_protocol.specs.Command.{command_by, list_command, save_command};
 ghost use Rattle.nagsched_protocol.specs.Command.{call_by, take_call, report_call, abandon_call};
 ghost use Rattle.nagsched_protocol.specs.Command.{reschedule_call, enable_call, status_call};
 ghost use Rattle.nagsched_protocol.specs.Command.{sole_name, name_and_switch, name_and_numbers};
 ghost use Rattle.nagsched_protocol.specs.Command.{name_number_switch, object_named};
 
+use crate::flat_line::flat_call;
 use crate::line::{Command, ScriptLine, line_refusal};
 use crate::refusal::{LineFault, ScriptError};
 use check_objects::Setup;
 use check_sched::Call;
 use check_states::Code;
+use json::Scratch;
 use serde_json::Value;
 use std::alloc::Global;
 
@@ -24,6 +26,8 @@ pub enum RunCommand {
     Call(Call),
     /// To save the scheduler, which stays as it is. (Our own profile.)
     Save,
+    /// To list all objects. The scheduler stays as it is. (Our own profile.)
+    List,
 }
 
 impl Command for RunCommand {
@@ -34,6 +38,13 @@ impl Command for RunCommand {
     ghost seen = { λ command. command };
 
     ghost meaning = { command_by };
+
+    fn read_flat(setup: &Setup, line: &[u8], scratch: &mut Scratch) -> Option<RunCommand> {
+        match flat_call(setup, line, scratch) {
+            Some(call) => Some(RunCommand::Call(call)),
+            None => None,
+        }
+    }
 
     fn read(_alloc: Global, setup: &Setup, line: ScriptLine) -> Result<RunCommand, ScriptError> {
         match command_by(setup, line.word, line.members) {
@@ -49,6 +60,7 @@ fn command_by(setup: &Setup, word: &str, members: &[Value]) -> Result<RunCommand
 {
     match word {
         "save" => save_command(members),
+        "list" => list_command(members),
         _ => Ok(RunCommand::Call(call_by(setup, word, members)?)),
     }
 }
@@ -60,6 +72,17 @@ fn save_command(members: &[Value]) -> Result<RunCommand, LineFault>
 {
     match members {
         [] => Ok(RunCommand::Save),
+        _ => Err(LineFault::Shape),
+    }
+}
+
+/// `["list"]`: all objects.
+#[tactic(auto, using(crate::proofs::CommandLemmas::list_members))]
+fn list_command(members: &[Value]) -> Result<RunCommand, LineFault>
+    ensures { result ≡ list_command (items_view members.now) }
+{
+    match members {
+        [] => Ok(RunCommand::List),
         _ => Err(LineFault::Shape),
     }
 }

@@ -17,6 +17,7 @@ use crate::line::{Command, ScriptLine, line_refusal};
 use crate::refusal::{LineFault, ScriptError};
 use check_objects::Setup;
 use check_states::Code;
+use json::Scratch;
 use serde_json::Value;
 use std::alloc::{AllocError, Global};
 
@@ -39,6 +40,10 @@ impl Command for DrillCommand {
     ghost seen = { drill_command };
 
     ghost meaning = { spec.drill_command_by };
+
+    fn read_flat(_setup: &Setup, _line: &[u8], _scratch: &mut Scratch) -> Option<DrillCommand> {
+        None
+    }
 
     fn read(alloc: Global, setup: &Setup, line: ScriptLine) -> Result<DrillCommand, ScriptError> {
         match line.word {

@@ -8,6 +8,7 @@
 //! - `script`: a setup, a saved state if the scheduler starts from one, and a command for each later line.
 //! - `line`: the command of one line by its length, its tree and its word. Each vocabulary implements
 //!   the trait [`Command`].
+//! - `flat_line`: lines that are read without a tree.
 //! - `command`: the vocabulary of `run`.
 //! - `drill_command`: the vocabulary of `drill`. `drill_script` puts its commands together.
 //! - `start`: how a scheduler starts; it also starts one.
@@ -19,6 +20,7 @@
 //! The modules of writing:
 //!
 //! - `text`: the text of each line, with one definition for all subcommands. `refusal_text` has the refusals.
+//! - `listing`: the lines of all objects.
 //! - `output`: gives bytes to a writer, all of them or up to a fault.
 //! - `laws`: laws of the text of a conversation, and the limits of an input and of a reply.
 
@@ -26,10 +28,12 @@ mod command;
 mod drill_command;
 mod drill_script;
 mod drive_error;
+mod flat_line;
 mod input;
 pub mod laws;
 mod line;
 mod line_reader;
+mod listing;
 mod live_error;
 mod outcome;
 mod output;
@@ -52,7 +56,7 @@ pub use line_reader::{
 };
 pub use live_error::LiveError;
 pub use outcome::{Ended, Outcome};
-pub use output::{flush, print_text, write_refusal, write_saved, write_text};
+pub use output::{flush, print_text, write_list, write_refusal, write_saved, write_text};
 pub use reader::{ReaderFault, ask_reader};
 pub use refusal::{InputRefusal, LineFault, ScriptError};
 pub use refusal_text::push_refusal;

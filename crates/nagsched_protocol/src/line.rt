@@ -1,18 +1,19 @@
 //! One line of a script: it is blank, or a JSON array that is a command. The array's first member is
 //! its word. Each subcommand has a vocabulary of its own, a type that is a [`Command`].
 
-ghost use Rattle.std.specs.Prelude.{◌≡◌, List, ℕ, Result, ok_or, option_map};
+ghost use Rattle.std.specs.Prelude.{◌≡◌, List, ℕ, Result, Ok, Some, IfSome, ok_or, option_map};
 ghost use Rattle.serde_json.specs.Data.{Items};
 ghost use Rattle.serde_json.specs.View.{view, items_view};
 ghost use Rattle.check_objects.specs.Configuration.{Configuration};
 ghost use Rattle.check_objects.specs.JsonTree.{tree_of};
 ghost use Rattle.nagsched_protocol.specs.declared.refusal.LineFault.{LineFault};
 ghost use Rattle.nagsched_protocol.specs.Line.{is_blank, word_and_members, word_and_members_in};
-ghost use Rattle.nagsched_protocol.specs.Line.{at_line, command_of};
+ghost use Rattle.nagsched_protocol.specs.Line.{at_line, command_in, command_of};
 ghost use Rattle.nagsched_protocol.specs.Agreement.{IsExpectedResult};
 
 use crate::refusal::{InputRefusal, LineFault, ScriptError};
 use check_objects::Setup;
+use json::Scratch;
 use serde_json::Value;
 use std::alloc::Global;
 
@@ -27,6 +28,11 @@ pub trait Command: Drop {
     ghost seen: { Self → Seen };
 
     ghost meaning: { Configuration → List ℕ → Items → Result Seen LineFault };
+
+    /// The command of a line that is read without its tree. None says nothing about the line.
+    fn read_flat(setup: &Setup, line: &[u8], scratch: &mut Scratch) -> Option<Self>
+        ensures { IfSome result (λ command.
+            option_map (command_in (meaning setup.now)) (tree_of line.now) ≡ Some (Ok (seen command))) };
 
     /// The command of a line, or its first fault. The faults are, in order: another shape, a return code
     /// above 3, a name that the setup doesn't have. Out of memory is an error of its own.
@@ -63,11 +69,15 @@ pub fn read_command<C: Command>(
     setup: &Setup,
     line: &[u8],
     number: usize,
+    scratch: &mut Scratch,
 ) -> Result<C, ScriptError>
     ensures { IsExpectedResult C.seen result (command_of (C.meaning setup.now) number line.now) }
 {
     if line.len() > MAX_LINE_BYTES {
         return Err(line_refusal(LineFault::TooLong, number));
+    }
+    if let Some(command) = C::read_flat(setup, line, scratch) {
+        return Ok(command);
     }
     let tree = read_tree(alloc, line, number)?;
     match word_and_members(&tree) {

@@ -16,6 +16,7 @@ use crate::live_error::LiveError;
 use crate::reader::ask_reader;
 use crate::refusal::ScriptError;
 use check_objects::Setup;
+use json::Scratch;
 use std::alloc::{AllocError, Global};
 use std::io::Read;
 use std::marker::Model;
@@ -225,6 +226,7 @@ pub fn read_buffered<C: Command>(
     setup: &Setup,
     line: &LineBuffer,
     number: usize,
+    scratch: &mut Scratch,
 ) -> Result<Option<C>, ScriptError>
     ensures { (text : List ℕ) → line.now ≡ prefix_of LINE_PREFIX_BYTES text
         → IsExpectedResult (option_map C.seen) result (line_meaning_by (C.meaning setup.now) number text) }
@@ -232,5 +234,5 @@ pub fn read_buffered<C: Command>(
     if line.is_blank() {
         return Ok(None);
     }
-    Ok(Some(read_command(alloc, setup, line.bytes(), number)?))
+    Ok(Some(read_command(alloc, setup, line.bytes(), number, scratch)?))
 }

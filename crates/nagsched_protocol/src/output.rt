@@ -1,13 +1,14 @@
-//! Gives bytes to a writer: a text, the line of a refusal or of a saved state, and the flush at the
-//! end. The modules `text` and `refusal_text` make the lines.
+//! Gives bytes to a writer: a text, the line of a refusal or of a saved state, the lines of all objects,
+//! and the flush at the end. The modules `text`, `refusal_text` and `listing` make the lines.
 
 ghost use Rattle.std.specs.Prelude.{OnOk, OnErr, IsOkUnless};
 ghost use Rattle.std.specs.Io.KnownBytes.{Appends, Keeps};
 ghost use Rattle.nagsched_protocol.specs.Output.{WroteFront};
-ghost use Rattle.nagsched_protocol.specs.Text.{refusal_line, saved_line};
+ghost use Rattle.nagsched_protocol.specs.Text.{list_lines, refusal_line, saved_line};
 ghost use Rattle.nagsched_protocol.specs.Written.{IsLineWritten};
 
 use crate::drive_error::DriveError;
+use crate::listing::list_lines;
 use crate::refusal::InputRefusal;
 use crate::refusal_text::push_refusal;
 use crate::text::saved_line;
@@ -64,6 +65,17 @@ pub fn write_saved<W: Write>(alloc: Global, sched: &Sched, writer: &mut W) -> Re
 {
     let line = saved_line(alloc, sched)?;
     write_text(writer, &line)
+}
+
+/// Writes the lines of all objects. The scheduler stays as it is, and nothing is flushed. The error is
+/// `Write`, and a prefix of the lines was written then, or `Memory`, and nothing was written.
+#[tactic(auto, using(crate::proofs::WrittenLemmas::line_written, crate::proofs::WrittenLemmas::line_unwritten))]
+pub fn write_list<W: Write>(alloc: Global, sched: &Sched, writer: &mut W) -> Result<(), DriveError>
+    ensures { IsLineWritten result (W.contents writer.old) (W.contents writer.new)
+        (list_lines sched.now) }
+{
+    let lines = list_lines(alloc, sched)?;
+    write_text(writer, lines.as_bytes())
 }
 
 /// Writes a text and flushes it. The error is `Write`, and a prefix of the text was written then.

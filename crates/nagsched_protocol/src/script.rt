@@ -17,6 +17,7 @@ use crate::start::{Start, open, resume};
 use check_objects::{LoadError, Setup};
 use check_saved_state::{Saved, SavedFault};
 use check_sched::Sched;
+use json::Scratch;
 use std::alloc::Global;
 
 /// The most bytes that an input may have.
@@ -118,12 +119,13 @@ pub(crate) fn read_commands<C: Command>(
     ensures { IsExpectedResult (λ v. map C.seen v.items) result
         (commands_of_lines first (C.meaning setup.now) (lines_of bytes.now)) }
 {
+    let mut scratch = Scratch::new(alloc);
     let mut commands = Vec::new(alloc);
     let mut number = first;
     let lines = Lines::new(bytes);
     for line in lines {
         if !is_blank(line) {
-            let command = read_command(alloc, setup, line, number)?;
+            let command = read_command(alloc, setup, line, number, &mut scratch)?;
             let Ok(()) = commands.push(command) else {
                 return Err(ScriptError::Memory);
             };

@@ -180,7 +180,7 @@ fn name_or_empty(setup: &Setup, number: u32) -> &str
 }
 
 /// The state of an object, or `PENDING` if it was never checked.
-fn state_text(standing: Standing) -> &'static str
+pub(crate) fn state_text(standing: Standing) -> &'static str
     ensures text { result.now ≡ state_text standing }
     ensures bounded { length result.now ≤ 11 }
 {
@@ -188,6 +188,13 @@ fn state_text(standing: Standing) -> &'static str
         return "PENDING";
     }
     standing.state.word()
+}
+
+/// Whether an object is flapping.
+pub(crate) fn flapping_word(flapping: bool) -> &'static str
+    ensures { result.now ≡ flapping_word flapping }
+{
+    if flapping { "FLAPPING" } else { "STEADY" }
 }
 
 /// Whether a state differs from the one before, and whether the object is flapping, between spaces.

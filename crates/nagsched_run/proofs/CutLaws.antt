@@ -141,6 +141,7 @@ text_on s (c ∷ a) b =
 by_is : (s : State) (c : RunCommand) → IsState s → IsState (state_after_command s c)
 by_is s (command.Call call) is = step_is_state s call is
 by_is s command.Save is = is
+by_is s command.List is = is
 
 through_is : (s : State) (a : List RunCommand) → IsState s → IsState (through s a)
 through_is s [] is = is

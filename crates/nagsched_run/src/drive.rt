@@ -11,7 +11,7 @@ ghost use Rattle.nagsched_protocol.specs.Streams.{streams};
 use check_sched::{Call, LAST_MOMENT, Sched};
 use nagsched_protocol::{
     DriveError, Ended, MAX_READ_BYTES, Outcome, REPLY_BYTES, RunCommand, Script, Start, flush,
-    push_reply, read_at_most, write_refusal, write_saved, write_text,
+    push_reply, read_at_most, write_list, write_refusal, write_saved, write_text,
 };
 use std::alloc::Global;
 use std::io::{Read, Write};
@@ -29,8 +29,8 @@ pub fn drive<R: Read, W: Write>(alloc: Global, start: u64, reader: &mut R, write
 
 /// Runs a script. It reads a setup, a saved state if the scheduler starts from one, and commands, and
 /// checks every line. Then it makes the calls on one scheduler that starts as `start` says, and writes
-/// the line of each reply. The command `save` isn't a call: its answer is the line of the scheduler's
-/// saved state, and it changes nothing. For a refused input it writes only the line of the first
+/// the line of each reply. The commands `save` and `list` aren't calls, and change nothing: their answers
+/// are the line of the scheduler's saved state, and the lines of all objects. For a refused input it writes only the line of the first
 /// refusal. The writer is flushed once, at the end.
 ///
 /// Line 1 is the setup. A saved state is line 2, of any length: it is the text after the word in a line
@@ -113,9 +113,9 @@ fn answer_commands<W: Write>(
     Ok(Outcome::Ran)
 }
 
-/// Carries out one command, and writes the line of its answer. The line of a reply goes through the
-/// buffer `line`. With room for `REPLY_BYTES` in that buffer, `Memory` comes only when the scheduler is
-/// saved, which changes nothing.
+/// Carries out one command, and writes its answer. The line of a reply goes through the buffer `line`.
+/// With room for `REPLY_BYTES` in that buffer, `Memory` comes only from `save` and `list`, which change
+/// nothing.
 pub(crate) fn answer_command<W: Write>(
     alloc: Global,
     sched: &mut Sched,
@@ -133,6 +133,7 @@ pub(crate) fn answer_command<W: Write>(
     match command {
         RunCommand::Call(call) => make_call(sched, call, line, writer),
         RunCommand::Save => write_saved(alloc, sched, writer),
+        RunCommand::List => write_list(alloc, sched, writer),
     }
 }
 

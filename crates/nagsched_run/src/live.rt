@@ -21,6 +21,7 @@ use crate::next_line::take_next_line;
 use check_objects::Setup;
 use check_saved_state::Saved;
 use check_sched::Sched;
+use json::Scratch;
 use nagsched_protocol::{
     DriveError, Ended, InputBuffer, InputRefusal, LINE_PREFIX_BYTES, LineBuffer, LiveError,
     Outcome, READ_BYTES, REPLY_BYTES, RunCommand, SAVED_PREFIX_BYTES, SETUP_PREFIX_BYTES,
@@ -35,7 +36,8 @@ use std::io::{Read, Write};
 /// or the input has ended after it.
 ///
 /// - A call is made, and the line of its reply is written.
-/// - The command `save` is answered by the line of the scheduler's saved state, and changes nothing.
+/// - The command `save` is answered by the line of the scheduler's saved state, and `list` by the lines of
+///   all objects. Both change nothing.
 /// - A line that isn't a command is answered by the line of its refusal, and the scheduler stays as it
 ///   was.
 /// - A blank line is skipped.
@@ -55,7 +57,7 @@ use std::io::{Read, Write};
 /// - `Read`: the reader failed. It also comes if each line with a number below 2^64 - 1 was answered,
 ///   or if 2^64 - 1 reads didn't bring the end of a line.
 /// - `Write`: the writer or its flush failed.
-/// - `Memory`: out of memory. A save may run out of memory too.
+/// - `Memory`: out of memory. A save and a list may run out of memory too.
 ///
 /// A prefix of the text was written then, and after `Memory` whole lines of it.
 ///
@@ -311,6 +313,7 @@ struct Conversation {
     buffered: InputBuffer,
     line: LineBuffer,
     reply: String,
+    scratch: Scratch,
 }
 
 impl Conversation {
@@ -325,6 +328,7 @@ impl Conversation {
             buffered,
             line: LineBuffer::new(alloc, LINE_PREFIX_BYTES),
             reply: String::new(alloc),
+            scratch: Scratch::new(alloc),
         }
     }
 
@@ -418,7 +422,7 @@ impl Conversation {
     }
 
     /// Writes the answer to the line that was taken. The memory for a reply's line is there before its
-    /// call is made. A save may run out of memory, and changes nothing.
+    /// call is made. A save or a list may run out of memory, and changes nothing.
     fn answer<W: Write>(
         &mut self,
         alloc: Global,
@@ -441,7 +445,13 @@ impl Conversation {
             → (self.new.sched ≡ self.old.sched)
             × Keeps (W.contents writer.old) (W.contents writer.new)) }
     {
-        match read_buffered::<RunCommand>(alloc, self.sched.setup(), &self.line, number) {
+        match read_buffered::<RunCommand>(
+            alloc,
+            self.sched.setup(),
+            &self.line,
+            number,
+            &mut self.scratch,
+        ) {
             Ok(None) => Ok(()),
             Ok(Some(command)) => answer_command(
                 alloc,

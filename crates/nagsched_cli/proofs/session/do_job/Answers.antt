@@ -14,9 +14,7 @@ pub returns-in-SetupLine : goal.returns-in-SetupLine
 returns-in-SetupLine g c = rw c.in-SetupLine.is c.write_setup_line.ensures
 
 pub returns-in-Drill : goal.returns-in-Drill
-returns-in-Drill g c =
-    let d = c.drill.ensures in
-    rw c.in-Drill.is (record { input = d.input; read = d.read; fault = d.fault; memory = d.memory })
+returns-in-Drill g c = rw c.in-Drill.is c.drill.ensures
 
 pub returns-in-Schema : goal.returns-in-Schema
 returns-in-Schema g c = rw c.in-Schema.is (refl, c.print_schema.ensures)
