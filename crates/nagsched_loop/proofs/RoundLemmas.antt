@@ -1,5 +1,5 @@
 -- A round's calls, one after another.
-use Rattle.std.proofs.Common.{◌≡◌, ℕ, ◌+◌, ◌<◌, ◌≤◌, List, [], ◌∷◌, ◌++◌, length, Some, None, inl, inr, refl, sym, ap, subst, ◌∙◌, length-append, arith}
+use Rattle.std.proofs.Common.{◌≡◌, ℕ, suc, ◌+◌, ◌<◌, ◌≤◌, List, [], ◌∷◌, ◌++◌, length, Some, None, inl, inr, refl, sym, ap, subst, ◌∙◌, length-append, arith}
 use mathlib.Core.List.{IsPrefix}
 use Rattle.std.specs.Prelude.{Contains}
 use Rattle.std.specs.List.{All}
@@ -19,6 +19,9 @@ use Rattle.nagsched_loop.specs.Effects.{Effect, HasEffects, answers, asks}
 use Rattle.nagsched_loop.specs.Loop.{HasMadeIncomingCalls, HasAbandoned, HasSlept, IsLoopRound, HasBegunCheck, IsAbandonment, KeepsRuns, effects_of}
 use Rattle.nagsched_loop.specs.Loop.{runs_after_call, runs_after_calls}
 use Rattle.nagsched_loop.specs.Loop.{limit_at, run_with_limit}
+use Rattle.nagsched_loop.specs.Work.{AreRounds, EndsRound, IsTimedRound, by_call, by_event, by_round}
+use Rattle.nagsched_loop.specs.declared.environment.End.{End}
+use Rattle.nagsched_loop.specs.declared.environment.End.TheVariants as end
 use Rattle.nagsched_loop.specs.declared.environment.Event.TheVariants as news
 use Rattle.nagsched_loop.specs.declared.runs.Run.{Run}
 use Rattle.nagsched_loop.proofs.RunLemmas.{keeps_pushed, keeps_same, left_more, left_none, left_of_within, left_then}
@@ -29,6 +32,9 @@ made_more : (es : List (Entry Call Reply)) (asked : Call) (reply : Reply) (a b c
 made_more es asked reply a b c f h =
     subst (λ own. HasMadeCalls (es ++ entry own asked reply ∷ []) 0 a c) f.own
     (made_then es (entry b.own asked reply ∷ []) 0 0 a b c f (made_reply asked reply b c h))
+
+suc_is_more : (n : ℕ) → suc n ≡ n + 1
+suc_is_more n = omega arith
 
 module _ {S : Type 0} (does : S → Effect → S → Type 0) where
   pub does_then : (ds es : List Effect) (s t u : S) → HasEffects does ds s t → HasEffects does es t u → HasEffects does (ds ++ es) s u
@@ -77,6 +83,30 @@ module _ {S : Type 0} (does : S → Effect → S → Type 0) where
   pub called_most : (a b : Caller Call Reply) (runs left : List Run) (s t : S)
       → HasAnswered 1000 a b runs left s t → HasMadeIncomingCalls does a b runs left s t
   called_most a b runs left s t f = record { entries = f.entries; came = inr (f.many, f.deeds); made = f.made; left_are = f.left_are }
+
+  -- the event that ends the generation came after the calls that came in
+  pub ended_by_event : (count : ℕ) (ending : End) (a b : Caller Call Reply) (runs left : List Run) (s t u : S)
+      → HasAnswered count a b runs left s t → does t (asks (Some (news.Ends ending))) u → EndsRound does ending s u
+  ended_by_event count ending a b runs left s t u f came =
+      by_event ending f.entries (does_then (effects_of f.entries) (asks (Some (news.Ends ending)) ∷ []) s t u f.deeds (u, came, refl))
+
+  -- a call that came in after them wasn't made
+  pub ended_by_call : (count : ℕ) (ending : End) (asked : Call) (a b : Caller Call Reply) (runs left : List Run) (s t u : S)
+      → HasAnswered count a b runs left s t → does t (asks (Some (news.Call asked))) u → ending ≡ end.Renewal → EndsRound does ending s u
+  ended_by_call count ending asked a b runs left s t u f came is =
+      subst (λ e. EndsRound does e s u) (sym is)
+      (by_call f.entries asked (does_then (effects_of f.entries) (asks (Some (news.Call asked)) ∷ []) s t u f.deeds (u, came, refl)))
+
+  -- the round ended after the calls that came in
+  pub ended_after_calls : (ending : End) (a b : Caller Call Reply) (runs left : List Run) (s t : S)
+      → HasMadeIncomingCalls does a b runs left s t → ending ≡ end.Renewal → EndsRound does ending s t
+  ended_after_calls ending a b runs left s t f is = subst (λ e. EndsRound does e s t) (sym is) (by_round f.entries f.came)
+
+  -- one round more
+  pub rounds_more : (n : ℕ) (a b c : Caller Call Reply) (first runs left : List Run) (s t u : S)
+      → AreRounds does n a b first runs s t → IsTimedRound does b c runs left t u → AreRounds does (n + 1) a c first left s u
+  rounds_more n a b c first runs left s t u f round =
+      subst (λ k. AreRounds does k a c first left s u) (suc_is_more n) (b, runs, t, f, round)
 
   -- a take forgets no run
   pub begun_keeps : (now : ℕ) (answer : Reply) (runs left : List Run) (a b : List (Entry Call Reply)) (s t : S)

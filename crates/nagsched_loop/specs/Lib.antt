@@ -2,3 +2,4 @@ pub mod Effects
 pub mod Faults
 pub mod Loop
 pub mod Months
+pub mod Work

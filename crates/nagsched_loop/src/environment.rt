@@ -99,16 +99,17 @@ pub(crate) trait Files {
             option_map (λ bytes. bytes.items) text ≡ stored self.now) }
         ensures fails { IfErr result (fails self.now) };
 
-    /// Stores a text in place of the one before, so that one of the two is always complete.
-    fn store_state(&mut self, text: &[u8]) -> Result<(), Fault>
+    /// Ends a generation: stores the text of its last state in place of the one before, and takes its history.
+    /// Both are done or none, so that the stored text and the history never part.
+    fn end_generation(
+        &mut self,
+        setup: &Setup,
+        entries: &[Entry<Call, Reply>],
+        text: &[u8],
+    ) -> Result<(), Fault>
         ensures stored { OnOk result (stored self.new ≡ Some text.now) }
-        ensures kept { OnErr result
-            ((stored self.new ≡ stored self.old) ⊎ (stored self.new ≡ Some text.now)) }
-        ensures fails { IfErr result (fails self.new) };
-
-    /// Takes the history of a generation that has ended.
-    fn past(&mut self, setup: &Setup, entries: &[Entry<Call, Reply>]) -> Result<(), Fault>
-        ensures stored { stored self.new ≡ stored self.old }
         ensures past { OnOk result (past setup.now entries.now) }
+        ensures kept { OnErr result ((stored self.new ≡ stored self.old)
+            ⊎ ((stored self.new ≡ Some text.now) × past setup.now entries.now)) }
         ensures fails { IfErr result (fails self.new) };
 }

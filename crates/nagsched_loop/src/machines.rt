@@ -20,7 +20,7 @@ pub(crate) const OBJECTS: usize = 6;
 pub(crate) const GATEWAY: u32 = 0;
 
 /// In milliseconds: the time that the fastest machine takes to answer, an hour and a day.
-pub(crate) const ANSWER: u64 = 5_000;
+pub(crate) const ANSWER: u64 = 5_500;
 
 pub(crate) const HOUR: u64 = 3_600_000;
 

@@ -7,7 +7,7 @@
 //! - `runs`: the list of the running checks, and the time limits;
 //! - `resuming`: the text of a state.
 
-ghost use Rattle.std.specs.Prelude.{◌≡◌, ◌⊎◌, List, [], IfErr, IfOk, OnErr};
+ghost use Rattle.std.specs.Prelude.{◌≡◌, ◌⊎◌, ◌/◌, List, [], IfErr, IfOk, OnErr};
 ghost use Rattle.ticket_steps.specs.declared.books.Entry.{Entry};
 ghost use Rattle.check_book.specs.Books.{entries_of, refused_of, sched_of};
 ghost use Rattle.check_desk.specs.Desks.{IsPassOf};
@@ -16,7 +16,9 @@ ghost use Rattle.check_sched.specs.declared.call.Call.{Call};
 ghost use Rattle.check_sched.specs.declared.call.Reply.{Reply};
 ghost use Rattle.nagsched_loop.specs.Faults.{IsLoopFault};
 ghost use Rattle.nagsched_loop.specs.Loop.{KeepsOtherRuns, IsReturned};
-ghost use Rattle.nagsched_loop.specs.Months.{IsGeneration, IsGenerationText, IsSavedText, IsTextOfSetup, IsTextSince, IsWatched};
+ghost use Rattle.nagsched_loop.specs.Months.{IsGeneration, IsGenerationText, IsMonitored, IsSavedText};
+ghost use Rattle.nagsched_loop.specs.Months.{IsTextOfSetup, IsTextSince, IsWatched};
+ghost use Rattle.nagsched_loop.specs.Work.{HasWorked};
 
 use crate::environment::{End, Environment, Files};
 use crate::fault::Fault;
@@ -27,6 +29,7 @@ use check_book::Book;
 use check_desk::{Desk, Pass};
 use std::alloc::Global;
 use std::sync::Wait;
+use ticket_steps::Kept;
 
 /// Monitors until the program is to end, and returns the book. The text that was stored last is that of the
 /// book's state. To change to another setup, the loop begins again as after a restart: from the stored state,
@@ -46,7 +49,9 @@ pub(crate) fn watch_months<O: Environment, F: Files>(
     room: usize,
 ) -> Result<Book, Fault>
     ensures stored { IfOk result (λ book. IsSavedText (sched_of book) (F.stored files.new)) }
-    ensures kept { IsTextSince O.does F.gives F.past (F.stored files.old) (F.stored files.new) }
+    ensures watched { IfOk result (λ book. IsMonitored O.does F.gives F.past (room / 2)
+        (F.stored files.old) (sched_of book) environment.old environment.new) }
+    ensures kept { IsTextSince O.does F.gives F.past (room / 2) (F.stored files.old) (F.stored files.new) }
     ensures fault { IfErr result (λ fault.
         IsLoopFault (F.stored files.old) fault ⊎ F.fails files.new fault) }
 {
@@ -83,11 +88,11 @@ fn watch_setup<O: Environment, F: Files>(
     room: usize,
 ) -> Result<Watched, Fault>
     ensures stored { IfOk result (λ made. IsSavedText (sched_of made.book) (F.stored files.new)) }
-    ensures watched { IfOk result (λ made.
-        IsWatched O.does F.gives F.past (F.stored files.old) environment.old (sched_of made.book)
-        made.runs.items) }
+    ensures watched { IfOk result (λ made. IsWatched O.does F.gives F.past (room / 2)
+        (F.stored files.old) made.end (sched_of made.book) made.runs.items environment.old environment.new) }
     ensures kept { OnErr result ((F.stored files.new ≡ F.stored files.old)
-        ⊎ IsTextOfSetup O.does F.gives F.past (F.stored files.old) environment.old (F.stored files.new)) }
+        ⊎ IsTextOfSetup O.does F.gives F.past (room / 2) (F.stored files.old) environment.old
+        (F.stored files.new)) }
     ensures fault { IfErr result (λ fault.
         IsLoopFault (F.stored files.old) fault ⊎ F.fails files.new fault) }
 {
@@ -112,8 +117,8 @@ fn watch_setup<O: Environment, F: Files>(
     unreachable!()
 }
 
-/// One generation: opens a desk on the book, works there, closes the desk, stores the state, and renews the
-/// book. The plugins continue meanwhile.
+/// One generation: opens a desk on the book, works there, closes the desk, hands the state and the history to
+/// the files, and renews the book. The plugins continue meanwhile.
 fn generation<O: Environment, F: Files>(
     rt: &impl Wait,
     alloc: Global,
@@ -127,10 +132,11 @@ fn generation<O: Environment, F: Files>(
     ensures empty { IfOk result (λ made. (entries_of made.0 ≡ []) × (refused_of made.0 ≡ 0)) }
     ensures stored { IfOk result (λ made. IsSavedText (sched_of made.0) (F.stored files.new)) }
     ensures generation_ended { IfOk result (λ made. (history : List (Entry Call Reply))
-        × IsGeneration F.past history (sched_of book) (sched_of made.0)
+        × IsGeneration O.does F.past (room / 2) made.1 history (sched_of book) (sched_of made.0)
+        runs.old.items runs.new.items environment.old environment.new
         × KeepsOtherRuns history runs.old.items runs.new.items) }
     ensures kept { OnErr result ((F.stored files.new ≡ F.stored files.old)
-        ⊎ IsGenerationText (sched_of book) (F.stored files.new)) }
+        ⊎ IsGenerationText F.past (sched_of book) (F.stored files.new)) }
     ensures fault { IfErr result (λ fault. (fault ≡ Fault.Memory) ⊎ F.fails files.new fault) }
 {
     let Ok((desk, mut passes)) = Desk::open(alloc, book, 1) else {
@@ -143,11 +149,11 @@ fn generation<O: Environment, F: Files>(
     let Ok(book) = desk.close(pass) else {
         unreachable!()
     };
-    files.store_state(&saved_text(alloc, &book)?)?;
-    let Ok((book, entries)) = book.renew(alloc, room) else {
+    let text = saved_text(alloc, &book)?;
+    files.end_generation(book.sched().setup(), book.entries(), &text)?;
+    let Ok((book, _entries)) = book.renew(alloc, room) else {
         return Err(Fault::Memory);
     };
-    files.past(book.sched().setup(), &entries)?;
     Ok((book, end))
 }
 
@@ -162,7 +168,9 @@ fn watch<O: Environment>(
     rounds: usize,
 ) -> GenerationEnd
     requires { IsPassOf desk.now pass }
-    ensures { IsReturned desk.now (pass_of pass) runs.old.items runs.new.items result.pass }
+    ensures returned { IsReturned desk.now (pass_of pass) runs.old.items runs.new.items result.pass }
+    ensures worked { HasWorked O.does rounds result.end (pass_of pass) (pass_of result.pass)
+        runs.old.items runs.new.items environment.old environment.new }
 {
     let mut pass = pass;
     for _round in 0..rounds {

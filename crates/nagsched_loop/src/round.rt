@@ -2,7 +2,7 @@
 //! takes a check that is due, and sleeps.
 
 ghost use Rattle.std.specs.Prelude.{◌≡◌, ℕ, Bool, ◌<◌, ◌≤◌, ◌∷◌, ◌++◌, []};
-ghost use Rattle.std.specs.Prelude.{Contains, IfOk, OnErr, OnOk, vec_capacity, vec_len};
+ghost use Rattle.std.specs.Prelude.{Contains, IfErr, IfOk, OnErr, OnOk, vec_capacity, vec_len};
 ghost use Rattle.std.specs.List.{All};
 ghost use Rattle.check_desk.specs.Desks.{HasRecorded, IsPassOf};
 ghost use Rattle.check_desk.specs.Passes.{pass_of};
@@ -11,6 +11,7 @@ ghost use Rattle.check_sched.specs.declared.call.Reply.{Reply as ReplyOf};
 ghost use Rattle.nagsched_loop.specs.Effects.{answers, begins};
 ghost use Rattle.nagsched_loop.specs.Loop.{HasMadeIncomingCalls, HasAbandoned, HasSlept, IsLoopRound, IsReturnedResult, IsReturnedWithReply, HasBegunCheck};
 ghost use Rattle.nagsched_loop.specs.Loop.{runs_after_call, limit_at, run_with_limit};
+ghost use Rattle.nagsched_loop.specs.Work.{EndsRound};
 
 use crate::environment::{End, Environment, Event};
 use crate::runs::{Run, forget, limit_of, overdue_run, wake_time};
@@ -51,6 +52,7 @@ impl<R: Wait> Round<'_, R> {
             runs.old.items runs.new.items result }
         ensures taken { IfOk result (λ returned. IsLoopRound O.does self.now.moment
             (pass_of pass) (pass_of returned) runs.old.items runs.new.items environment.old environment.new) }
+        ensures ended { IfErr result (λ ended. EndsRound O.does ended.end environment.old environment.new) }
     {
         let pass = self.make_calls(pass, environment, runs)?;
         let pass = self.abandon_overdue(pass, runs)?;
@@ -71,6 +73,7 @@ impl<R: Wait> Round<'_, R> {
             runs.old.items runs.new.items result }
         ensures called { IfOk result (λ returned. HasMadeIncomingCalls O.does
             (pass_of pass) (pass_of returned) runs.old.items runs.new.items environment.old environment.new) }
+        ensures ended { IfErr result (λ ended. EndsRound O.does ended.end environment.old environment.new) }
     {
         let mut pass = pass;
         for _call in 0..CALLS_AT_ONCE {
@@ -103,6 +106,7 @@ impl<R: Wait> Round<'_, R> {
             × (runs.new.items ≡ runs_after_call call runs.old.items)) }
         ensures stays { OnErr result ((environment.new ≡ environment.old)
             × (runs.new.items ≡ runs.old.items)) }
+        ensures ended { IfErr result (λ ended. ended.end ≡ End.Renewal) }
     {
         let (pass, reply) = self.ask(pass, call)?;
         forget(runs, call);
@@ -118,6 +122,7 @@ impl<R: Wait> Round<'_, R> {
         ensures abandoned { IfOk result (λ returned. HasAbandoned self.now.moment
             (pass_of pass) (pass_of returned) runs.old.items runs.new.items) }
         ensures none_left { OnOk result (All (λ run. self.now.moment < run.limit) runs.new.items) }
+        ensures ended { IfErr result (λ ended. ended.end ≡ End.Renewal) }
     {
         let mut pass = pass;
         while let Some(run) = overdue_run(runs.as_slice(), self.moment) {
@@ -138,6 +143,7 @@ impl<R: Wait> Round<'_, R> {
             (pass_of pass) (pass_of returned)
             × (runs.new.items
             ≡ runs_after_call (call.Abandon run.object run.number self.now.moment) runs.old.items)) }
+        ensures ended { IfErr result (λ ended. ended.end ≡ End.Renewal) }
     {
         let abandoned = Call::Abandon {
             object: run.object,
@@ -164,7 +170,9 @@ impl<R: Wait> Round<'_, R> {
             HasRecorded (call.Take self.now.moment) made.1 (pass_of pass) (pass_of made.0)) }
         ensures begun { IfOk result (λ made. HasBegunCheck O.does self.now.moment made.1
             runs.old.items runs.new.items environment.old environment.new) }
-        ensures stays { OnErr result (runs.new.items ≡ runs.old.items) }
+        ensures stays { OnErr result ((environment.new ≡ environment.old)
+            × (runs.new.items ≡ runs.old.items)) }
+        ensures ended { IfErr result (λ ended. ended.end ≡ End.Renewal) }
     {
         if runs.reserve(1).is_err() {
             let end = End::Renewal;
@@ -184,6 +192,7 @@ impl<R: Wait> Round<'_, R> {
         ensures returned { IsReturnedWithReply self.now.desk.now (pass_of pass) result }
         ensures made { IfOk result (λ made.
             HasRecorded call made.1 (pass_of pass) (pass_of made.0)) }
+        ensures ended { IfErr result (λ ended. ended.end ≡ End.Renewal) }
     {
         let (pass, answer) = self.desk.ask(self.rt, pass, call);
         match answer {

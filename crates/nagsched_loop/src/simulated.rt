@@ -195,13 +195,15 @@ impl<W: Write> Files for Memory<W> {
         }
     }
 
-    fn store_state(&mut self, text: &[u8]) -> Result<(), Fault> {
+    fn end_generation(
+        &mut self,
+        setup: &Setup,
+        entries: &[Entry<Call, Reply>],
+        text: &[u8],
+    ) -> Result<(), Fault> {
         self.text = Some(text.to_vec(self.alloc)?);
         output::write_bytes(&mut self.writer, text)?;
-        output::write(&mut self.writer, "\n")
-    }
-
-    fn past(&mut self, setup: &Setup, entries: &[Entry<Call, Reply>]) -> Result<(), Fault> {
+        output::write(&mut self.writer, "\n")?;
         output::write_entries(self.alloc, setup, entries, &mut self.writer)
     }
 }
