@@ -9,6 +9,6 @@ mkdir -p "$(dirname "$file")"
 # The file is replaced as a whole, since a monitor may run it while it is built again.
 made=$(mktemp "$file.XXXXXX")
 trap 'rm -f "$made"' EXIT
-cc -std=c11 -O2 -Wall -Wextra -Wconversion -Werror ${CFLAGS--static} -o "$made" "$here"/runner/*.c -lm
+cc -std=c11 -O2 -Wall -Wextra -Wconversion -Werror ${CFLAGS--static} -pthread -o "$made" "$here"/runner/*.c -lm
 chmod 755 "$made"
 mv "$made" "$file"

@@ -9,8 +9,7 @@
     store      the database of a site
     site       the files of a site, read and tested
     system     the machine: files that don't block, the log, processes, addresses
-    model      the types that all share: objects, their states and runs, calls and answers, jobs, moments, texts
+    model      the types that all share: objects, their states, runs and remarks, calls and answers, jobs, moments, texts
     faults     why the monitor can't begin or refuses a request
 
-A package uses only packages below it in this list. Each module says what it is for.
-"""
+A package uses only packages below it in this list. Each module says what it is for."""

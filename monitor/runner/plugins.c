@@ -4,9 +4,9 @@
 #include <signal.h>
 #include <stddef.h>
 #include <stdio.h>
+#include <stdlib.h>
 #include <string.h>
 #include <sys/epoll.h>
-#include <sys/mman.h>
 #include <sys/wait.h>
 #include <time.h>
 #include <unistd.h>
@@ -106,13 +106,9 @@ void fail(struct runner *runner, long long job, const char *program, int error) 
         end_line(runner, write_result(next_line(runner), job, (struct ending){"failed", 0, false}, why, none));
 }
 
-/* Makes more plugins, in memory that new processes don't get: then a write to it after a fork copies no page. */
 static void make_plugins(void) {
-    struct plugin *made = mmap(NULL, PLUGINS_AT_ONCE * sizeof *made, PROT_READ | PROT_WRITE, MAP_PRIVATE | MAP_ANONYMOUS, -1, 0);
-    if (made == MAP_FAILED)
-        return;
-    madvise(made, PLUGINS_AT_ONCE * sizeof *made, MADV_DONTFORK);
-    for (int i = 0; i < PLUGINS_AT_ONCE; i++)
+    struct plugin *made = calloc(PLUGINS_AT_ONCE, sizeof *made);
+    for (int i = 0; made != NULL && i < PLUGINS_AT_ONCE; i++)
         plugin_free(&made[i]);
 }
 

@@ -11,7 +11,7 @@
 #endif
 
 /* Prepares what all starts share, raises the limit of open files as far as possible, and starts the guard. The guard is a process that kills the plugins if the
- * runner ends in any way. Returns false if one of these steps fails. */
+ * runner ends in any way or doesn't end with its standard input, and ends after them. Returns false if one of these steps fails. */
 bool processes_open(void);
 
 /* Whether a process that has ended was the guard, which is then started again. */
@@ -23,8 +23,8 @@ struct started {
     int place, output, errors;
 };
 
-/* Starts a process with these words, in a group of its own. The process itself loads the program, so that this never waits for a file system. Returns 0, or the
- * number of the error that kept it from starting. */
+/* Starts a process with these words, in a group of its own. If a file system holds up the program, this waits for a few milliseconds and goes on. Returns 0, or
+ * the number of the error that kept the process from starting. */
 int process_start(char *const *words, struct started *started);
 
 /* Kills a process with its group, which may have ended just now, or belong to another user. */

@@ -19,7 +19,9 @@
 
 #include "runner.h"
 
-enum { EVENTS_AT_ONCE = 64, NO_ROOM_WAIT = 100, LONGEST_WAIT = 60000 };
+enum { EVENTS_AT_ONCE = 64, NO_ROOM_WAIT = 100 };
+/* In milliseconds: the longest wait for events, the same while plugins run, and how much longer than that a wait takes if this process stood still. */
+enum { LONGEST_WAIT = 60000, LONGEST_LOOK = 1000, STANDSTILL = 1000 };
 /* The limit for the end of a killed plugin, in seconds, after which it is reported as stuck. */
 static const double GRACE = 5.0;
 
@@ -118,14 +120,21 @@ static struct plugin *plugin_of(struct runner *runner, pid_t process) {
 
 /* Reports the plugins whose processes have ended, as long as there is room. */
 static void finish_ended_ones(struct runner *runner) {
-    pid_t process = 1;
+    pid_t process;
     int status;
-    while (runner->has_ended_ones && has_room(runner) && (process = waitpid(-1, &status, WNOHANG)) > 0) {
+    while (has_room(runner) && (process = waitpid(-1, &status, WNOHANG)) > 0) {
         struct plugin *plugin = is_guard(process) ? NULL : plugin_of(runner, process);
         if (plugin != NULL)
             finish(runner, plugin, status);
     }
-    runner->has_ended_ones = runner->has_ended_ones && process > 0;
+}
+
+/* Gives running plugins the time of a wait that took too long: this process stood still, or the whole machine did, and no plugin is to blame. */
+static void extend_limits(struct runner *runner, double waited, int wanted) {
+    if (waited * 1000 <= wanted + STANDSTILL)
+        return;
+    for (struct plugin *plugin = runner->running.after; plugin != &runner->running; plugin = plugin->after)
+        plugin->deadline += waited;
 }
 
 /* Kills the plugins that are past their limits, and reports those that were killed and don't end. */
@@ -153,7 +162,7 @@ static int quiet_time(const struct runner *runner) {
     double first = INFINITY;
     for (const struct plugin *plugin = runner->running.after; plugin != &runner->running; plugin = plugin->after)
         first = fmin(first, plugin->deadline);
-    int left = (int)fmax(0, fmin(ceil((first - now()) * 1000), LONGEST_WAIT));
+    int left = (int)fmax(0, fmin(ceil((first - now()) * 1000), first < INFINITY ? LONGEST_LOOK : LONGEST_WAIT));
     if (has_room(runner))
         return runner->is_behind ? 0 : left;
     return left > NO_ROOM_WAIT ? left : NO_ROOM_WAIT;
@@ -164,7 +173,7 @@ static void handle(struct runner *runner, const struct epoll_event *event) {
     if (event->data.ptr == &JOBS)
         read_jobs(runner);
     else if (event->data.ptr == &ENDED)
-        runner->has_ended_ones = read(runner->ended, &signal_of_an_end, sizeof signal_of_an_end) > 0 || runner->has_ended_ones;
+        (void)!read(runner->ended, &signal_of_an_end, sizeof signal_of_an_end); /* it only ends the wait */
     else if (event->data.ptr != &RESULTS)
         read_stream(runner, event->data.ptr);
 }
@@ -174,7 +183,10 @@ static void turn(struct runner *runner) {
     bool takes_jobs = has_room(runner) && runner->unread_length < MOST_LINE;
     if (takes_jobs != runner->takes_jobs && poll_for(runner, EPOLL_CTL_MOD, STDIN_FILENO, takes_jobs ? EPOLLIN : 0, &JOBS))
         runner->takes_jobs = takes_jobs;
-    int count = epoll_wait(runner->poll, events, EVENTS_AT_ONCE, quiet_time(runner));
+    int wait = quiet_time(runner);
+    double begun = now();
+    int count = epoll_wait(runner->poll, events, EVENTS_AT_ONCE, wait);
+    extend_limits(runner, now() - begun, wait);
     for (int i = 0; i < count; i++)
         handle(runner, &events[i]);
     finish_ended_ones(runner); /* after all events, so that no event is of a removed plugin */

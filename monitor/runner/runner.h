@@ -32,7 +32,7 @@ struct plugin {
 struct runner {
     const struct allowed *allowed; /* NULL: every command line */
     int poll, ended;
-    bool is_over, is_behind, takes_jobs, has_ended_ones, is_line_too_long, waits_for_reader;
+    bool is_over, is_behind, takes_jobs, is_line_too_long, waits_for_reader;
     size_t unread_length, unsent_length;
     struct plugin running; /* the ring's head */
 };

@@ -2,7 +2,6 @@
 import contextlib
 import json
 import pathlib
-import signal
 from typing import Any, Callable, Dict, List, Mapping, Optional, Sequence, Set, Tuple
 
 from nagsched_monitor.core.checks import TOLERANCE
@@ -10,8 +9,8 @@ from nagsched_monitor.core.requests import Request
 from nagsched_monitor.faults import ConversationEnded, NotStored
 from nagsched_monitor.model.jobs import Job
 from nagsched_monitor.model.protocol import Standing
-from nagsched_monitor.model.run_table import Owner
-from nagsched_monitor.scheduler.live_process import Conversation
+from nagsched_monitor.model.objects import Owner
+from nagsched_monitor.scheduler.schedulers import Conversation
 from nagsched_monitor.site.site import read_site
 from nagsched_monitor.store.rows import Cell
 from nagsched_monitor.store.store import Store, Write, delete

@@ -3,7 +3,7 @@ from typing import TYPE_CHECKING, Dict, List
 
 from nagsched_monitor.core.engine import Engine
 from nagsched_monitor.model.jobs import Event, JobLost
-from nagsched_monitor.model.run_table import Owner
+from nagsched_monitor.model.objects import Owner
 
 if TYPE_CHECKING:
     from .simulated import SimulatedRunners

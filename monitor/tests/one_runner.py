@@ -8,6 +8,8 @@ import time
 from types import TracebackType
 from typing import Any, Dict, List, Optional, Sequence, Type, Union
 
+from nagsched_monitor.run.runners import RunnerPools
+
 from .waiting import LONG
 
 MONITOR = pathlib.Path(__file__).resolve().parent.parent
@@ -66,3 +68,7 @@ class OneRunner:
             self.process.kill()
             self.process.wait()
             self._results.close()
+
+
+def processes_of(pools: RunnerPools) -> List["subprocess.Popen[bytes]"]:
+    return [process.process for pool in pools._pools.values() for process in pool.processes]

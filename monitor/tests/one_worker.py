@@ -9,7 +9,7 @@ from unittest import mock
 from nagsched_monitor.run.gearman import Code, Server
 from nagsched_monitor.run.gearman_signing import JOB, RESULT, Refusal, Signer
 from nagsched_monitor.run.gearman_worker import Worker
-from nagsched_monitor.run.pool import RunnerPool
+from nagsched_monitor.run.runners import RunnerPool
 from nagsched_monitor.system.poller import FilePoller
 
 from .gearman_server import FarEnd

@@ -240,7 +240,7 @@ def draw(cgis: pathlib.Path, unpacked: pathlib.Path, site: Site, pictures: pathl
         text = re.sub("(?<=['\"])/nagios4/", f"{(unpacked / 'usr/share/nagios4/htdocs').as_uri()}/", text)
         file = site.folder / f"{name}.html"
         file.write_text(text)
-        drawn(browser, file.as_uri(), 1280, pictures / f"status-cgi-{name}.png")
+        drawn(browser, file.as_uri(), (1280, 1400), pictures / f"status-cgi-{name}.png")
         print(f"status.cgi: a picture of its {name}")
 
 

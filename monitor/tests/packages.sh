@@ -1,26 +1,29 @@
 #!/bin/bash
 # The monitor with Debian's packages: Nagios's pages (nagios4-cgi) and NSCA over its files (tests/packages.py), a browser and promtool
 # (tests/page_pictures.py), gearmand with workers, NRPE and SSH (tests/packages_gearman.py). Then a runner over SSH (tests/packages_ssh.py), Alertmanager
-# (tests/packages_alerts.py), and the trial on Nagios as README and the tutorial have it (tests/packages_trial.py). A package that isn't installed is fetched
-# and unpacked into a temporary folder. chromium-headless-shell and prometheus are installed if PICTURES is named, they are missing and root runs this. A
-# package that can't be fetched is named, and its trial is skipped.
+# (tests/packages_alerts.py), Livestatus's clients (tests/packages_livestatus.py; NagVis needs php-cli, and Perl libmonitoring-livestatus-perl), the trial on
+# Nagios as README and the tutorial have it (tests/packages_trial.py), and the second opinion: as its page has it (tests/packages_opinion.py), and for an hour
+# (tests/packages_hour.py). A package that isn't installed is fetched and unpacked into a temporary folder.
+# chromium-headless-shell and prometheus are installed if PICTURES is named, they are missing and root runs this. A package that can't be fetched is named,
+# and its trial is skipped.
 #
-#     monitor/tests/packages.sh PROGRAM [pages [PICTURES] | gearman [WHAT..] | ssh [CUTS] | alerts [SECONDS] | trial]
+#     monitor/tests/packages.sh PROGRAM [pages [PICTURES] | gearman [WHAT..] | ssh [CUTS] | alerts [SECONDS] | livestatus | trial | opinion | hour FOLDER [SECONDS]]
 #
 # PROGRAM is nagsched, PICTURES a folder for pictures of the pages, and packages_gearman.py describes WHAT. CUTS is how often the connection is cut. SECONDS is
-# how long Alertmanager is away. Without a second argument all parts are tried, except `trial`: it installs packages, and needs root and a machine that can be
-# thrown away.
+# how long Alertmanager is away, or how long Nagios runs. Without a second argument all parts are tried, except the last three: they install packages, and
+# need root and a machine that can be thrown away.
 set -eu
 program=$(realpath "$1")
 parts=("${2:-all}")
 pictures=
 what=()
 case ${parts[0]} in
-    all) parts=(pages gearman ssh alerts) ;;
+    all) parts=(pages gearman ssh alerts livestatus) ;;
     pages) pictures=${3:+$(realpath -m "$3")} ;;
     gearman | ssh | alerts) what=("${@:3}") ;;
-    trial) ;;
-    *) echo "packages: there is no part ${parts[0]}: name pages, gearman, ssh, alerts or trial" >&2; exit 2 ;;
+    hour) what=("$(realpath -m "$3")" "${@:4}") ;;
+    livestatus | trial | opinion) ;;
+    *) echo "packages: there is no part ${parts[0]}: name pages, gearman, ssh, alerts, livestatus, trial, opinion or hour" >&2; exit 2 ;;
 esac
 here=$(cd "$(dirname "$0")" && pwd)
 work=$(mktemp -d)
@@ -87,14 +90,39 @@ alerts() {
     python3 "$here/packages_alerts.py" "$program" ${what[@]+"${what[@]}"}
 }
 
+livestatus() {
+    for package in nagvis python3-pynag nagstamon; do
+        apt-get download "$package" >apt.out 2>&1 || echo "packages: $package can't be fetched"
+    done
+    for package in nagvis*.deb python3-pynag*.deb nagstamon*.deb; do
+        [ ! -f "$package" ] || dpkg -x "$package" unpacked
+    done
+    (cd "$here/.." && python3 -m tests.packages_livestatus "$program" "$work/unpacked")
+}
+
 ssh() {
     python3 "$here/packages_ssh.py" "$program" ${what[@]+"${what[@]}"}
 }
 
-trial() {
+# Runs a test that needs Nagios's packages. Waits while another program installs some.
+with_nagios() {
+    local packages=(nagios4 monitoring-plugins-basic monitoring-plugins-standard sudo)
     apt-get update > apt.out 2>&1
-    DEBIAN_FRONTEND=noninteractive apt-get install -y --no-install-recommends nagios4 monitoring-plugins-basic monitoring-plugins-standard sudo > apt.out 2>&1 || { tail -n 2 apt.out; return 1; }
-    (cd "$here/.." && python3 -m tests.packages_trial "$program")
+    DEBIAN_FRONTEND=noninteractive apt-get install -y --no-install-recommends -o DPkg::Lock::Timeout=300 "${packages[@]}" > apt.out 2>&1 ||
+        { tail -n 2 apt.out; return 1; }
+    (cd "$here/.." && python3 -m "tests.$1" "$program" ${what[@]+"${what[@]}"})
+}
+
+trial() {
+    with_nagios packages_trial
+}
+
+opinion() {
+    with_nagios packages_opinion
+}
+
+hour() {
+    with_nagios packages_hour
 }
 
 status=0

@@ -30,11 +30,15 @@ CONFIG = """
 route: {{receiver: all, group_by: [host, service], group_wait: 1s, group_interval: 2s, repeat_interval: 4h}}
 receivers: [{{name: all, webhook_configs: [{{url: 'http://127.0.0.1:{port}/', send_resolved: true}}]}}]
 inhibit_rules:
+  - source_matchers: ['alertname = NagschedHeld']
+    target_matchers: ['alertname = NagschedProblem']
+    equal: [site, host, service]
   - source_matchers: ['alertname = NagschedProblem', 'service = ""']
     target_matchers: ['alertname = NagschedProblem', 'service != ""']
     equal: [site, host]
 """
 SERVICES = ("db;disk", "db;load", "db;old", "web;http", "quiet;disk")
+REMARKED = ("a;disk", "b;load", "web;http", "quiet;disk")  # each on a host of its own: a message of the example has all problems of a host
 EXAMPLE = HERE.parent / "examples/alertmanager.yml"
 # What services want of notifications, by the example.
 WISHES: Dict[str, Dict[str, Any]] = {"a;all": {}, "b;off": {"enabled": False}, "c;none": {"options": []}, "d;critical": {"options": ["critical", "recovery"]},
@@ -119,6 +123,9 @@ class Trial:
         for name, code in results:
             subprocess.run([sys.executable, str(MONITOR), str(self.site), "result", name, str(code), f"code {code}"], stdout=subprocess.DEVNULL, check=True)
 
+    def ask(self, *words: str) -> None:
+        subprocess.run([sys.executable, str(MONITOR), str(self.site), *words], stdout=subprocess.DEVNULL, check=True)
+
     def amtool(self, *words: str) -> str:
         return subprocess.run(["amtool", f"--alertmanager.url=http://127.0.0.1:{self.port}", *words], stdout=subprocess.PIPE, text=True,
                               check=True).stdout.strip()
@@ -165,6 +172,32 @@ def tried(trial: Trial, away: float) -> List[str]:
     return trial.wrong
 
 
+def tried_remarks(trial: Trial) -> List[str]:
+    """With the example's configuration, people hear of what no remark holds, and nothing ends because a remark begins."""
+    once, over = {"firing": 1}, {"firing": 1, "resolved": 1}
+    trial.give(("a;disk", 2), ("b;load", 1))
+    trial.hears("problems that nothing holds", QUIET, a_disk=once, b_load=once)
+    trial.ask("downtime", "a;disk", "40", "move")
+    trial.ask("ack", "b;load", "known")
+    trial.ask("downtime", "web", "1h", "new disk")
+    trial.hears("nothing ends when a downtime or an acknowledgement begins", QUIET, a_disk=once, b_load=once)
+    trial.give(("web;http", 2), ("web", 2))
+    trial.hears("problems of a host in downtime", QUIET, a_disk=once, b_load=once)
+    trial.give(("b;load", 2))
+    trial.hears("an acknowledgement ends with its state", QUIET, a_disk=once, b_load={"firing": 2, "resolved": 1})
+    trial.give(("web", 0))
+    trial.hears("a recovery in downtime isn't told", QUIET, a_disk=once, b_load={"firing": 2, "resolved": 1})
+    trial.ask("remarks", "--remove", "3")
+    trial.hears("a downtime is removed, and the problem that is left is told", QUIET, a_disk=once, b_load={"firing": 2, "resolved": 1}, web_http=once)
+    trial.ask("downtime", "quiet;disk", "20", "--within", "1h", "reboot")
+    trial.give(("quiet;disk", 2))
+    trial.hears("a flexible downtime begins with the problem", 12, a_disk=once, b_load={"firing": 2, "resolved": 1}, web_http=once)
+    trial.hears("and the problem is told when it ends", QUIET, a_disk=once, b_load={"firing": 2, "resolved": 1}, web_http=once, quiet_disk=once)
+    trial.give(*((name, 0) for name in REMARKED))
+    trial.hears("all is well", QUIET, a_disk=over, b_load={"firing": 2, "resolved": 2}, web_http=over, quiet_disk=over)
+    return trial.wrong
+
+
 def tried_wishes(trial: Trial) -> List[str]:
     """With the example's routes, people hear of what objects want, and of nothing else."""
     once, over = {"firing": 1}, {"firing": 1, "resolved": 1}
@@ -191,7 +224,8 @@ def main(program: str, away: str = "60") -> int:
         if shutil.which(needed) is None:
             print(f"packages: passed over the alerts: {needed} isn't here")
             return 0
-    wrong = run_trial(program, example_config, WISHES, tried_wishes)
+    wrong = run_trial(program, example_config, {name: {} for name in REMARKED}, tried_remarks)
+    wrong += run_trial(program, example_config, WISHES, tried_wishes)
     wrong += run_trial(program, lambda port: CONFIG.format(port=port), {name: {} for name in SERVICES}, lambda trial: tried(trial, float(away)))
     print(f"packages of Alertmanager: {'failed' if wrong else 'passed'}")
     return 1 if wrong else 0

@@ -174,6 +174,7 @@ def refuse() -> None:
 
 def prepare(program: str) -> None:
     """The user, the clone, and the program in it."""
+    signal.signal(signal.SIGINT, signal.default_int_handler)  # what a shell starts in the background ignores it, and so would all that it starts
     subprocess.run(["useradd", "--create-home", "--shell", "/bin/bash", USER], check=True)
     HOME.chmod(0o700)
     RIGHTS.write_text(f"{USER} ALL=(ALL) NOPASSWD: ALL\n")

@@ -2,21 +2,29 @@
 
     cd monitor; python3 -m tests.page_pictures FOLDER
 
-Quiet, an outage, a site of 500 services, and the page of one object, each 1280 and 400 pixels wide. page.png is the picture of README:
-`pngquant --output docs/page.png 32 FOLDER/page.png` makes it small. Missing programs are named.
+Quiet, an outage, a site of 500 services, all objects, a host and a service, each on a wall, a desk and a phone, light and dark. page.png is the picture of
+README, which belongs in docs. It has the checksum of the page that it shows, so test_page_picture tells when it has to be drawn again. Missing programs are
+named.
 """
+import hashlib
+import itertools
+import json
 import pathlib
 import random
+import re
 import shutil
+import struct
 import subprocess
 import sys
 import tempfile
 import threading
 import time
-import urllib.parse
+import unittest.mock
 import urllib.request
-from typing import Any, Dict, List, Tuple
+import zlib
+from typing import Any, Dict, List, Optional, Sequence, Tuple
 
+from nagsched_monitor.model.remarks import Remark
 from nagsched_monitor.outputs.page import Server, SiteFolder
 from nagsched_monitor.store.rows import StoredChange
 
@@ -32,6 +40,13 @@ SERVICES = {
 PING = "PING OK - Packet loss = 0%, RTA = 0.80 ms|rta=0.8ms;100;500;0 pl=0%;20;60"
 UNREACHABLE = "CRITICAL - Host Unreachable (10.0.3.17)"
 Objects = Dict[str, Dict[str, Any]]
+SIZES = {"wall": (1920, 1080), "desk": (1280, 900), "phone": (390, 1400)}
+COLOURS = {"light": "--blink-settings=preferredColorScheme=1", "dark": "--blink-settings=preferredColorScheme=0"}
+FACTS = {"web-00": {"alias": "the shop", "address": "10.0.3.17", "notes": "rack 7", "notes_url": "https://wiki.example.org/web-00"}}
+GROUPS = {"web-00": {"host_groups": ["web"], "contacts": ["ada"]}, "web-00;http": {"service_groups": ["shop"], "contact_groups": ["web-team"]}}
+# The moment that README's picture shows, and what comes before the checksum in the picture.
+SHOWN_AT = 1_796_115_600.0
+MARK = b"tEXtpage\0"
 
 
 def quiet(hosts: int) -> Objects:
@@ -73,6 +88,23 @@ def outage() -> Tuple[Objects, List[StoredChange]]:
     return objects, changes
 
 
+def said() -> List[Remark]:
+    """An acknowledgement, and a downtime of a host with its services."""
+    now = time.time()
+    return [
+        Remark(1, "acknowledgement", "db-01;disk /", "ada", "a disk is ordered", now - 80_000, now - 80_000, state="WARNING"),
+        Remark(2, "downtime", "db-00", "ben", "new kernel", now - 4_000, now - 1_000, now + 2_600),
+    ]
+
+
+def fill(site: pathlib.Path, objects: Objects, kept: Sequence[StoredChange]) -> None:
+    hosts = [{"name": name, "max_check_attempts": 3} for name in objects if ";" not in name]
+    services = [{"host": name.partition(";")[0], "description": name.partition(";")[2], "max_check_attempts": 3} for name in objects if ";" in name]
+    (site / "inventory.json").write_text(json.dumps(FACTS))
+    (site / "groups.json").write_text(json.dumps(GROUPS))
+    fill_database(site, list(objects.values()), figures(len(objects)), tuple(kept), said() if kept else (), {"hosts": hosts, "services": services})
+
+
 def figures(count: int) -> Dict[str, float]:
     """Figures of a monitor that keeps pace with this many objects."""
     return {
@@ -81,11 +113,52 @@ def figures(count: int) -> Dict[str, float]:
     }
 
 
-def drawn(browser: str, url: str, width: int, picture: pathlib.Path, height: int = 1400) -> None:
+def drawn(browser: str, url: str, size: Tuple[int, int], picture: pathlib.Path, colours: str = COLOURS["light"]) -> None:
     """A picture of a page. Each browser has a home of its own."""
     with tempfile.TemporaryDirectory() as home:
-        words = [browser, "--headless", "--no-sandbox", "--disable-gpu", "--hide-scrollbars", f"--user-data-dir={home}", f"--window-size={width},{height}"]
-        subprocess.run([*words, f"--screenshot={picture}", url], stdout=subprocess.DEVNULL, stderr=subprocess.DEVNULL, timeout=120, check=True)
+        words = [browser, "--headless", "--no-sandbox", "--disable-gpu", "--hide-scrollbars", f"--user-data-dir={home}", f"--window-size={size[0]},{size[1]}"]
+        subprocess.run([*words, colours, f"--screenshot={picture}", url], stdout=subprocess.DEVNULL, stderr=subprocess.DEVNULL, timeout=120, check=True)
+
+
+def readme_page(folder: pathlib.Path) -> str:
+    """The page of an outage at a fixed moment, over a site that is written to this folder."""
+    site = folder / "office"
+    site.mkdir()
+    (site / "monitor.json").write_text('{"zone": "UTC"}')
+    with unittest.mock.patch("time.time", return_value=SHOWN_AT):
+        objects, kept = outage()
+        fill(site, objects, kept)
+        found = SiteFolder(site).document("/", "")
+    assert found is not None
+    return found[1]
+
+
+def checksum(page: str) -> bytes:
+    return hashlib.sha256(page.encode()).hexdigest().encode()
+
+
+def checksum_in(picture: bytes) -> Optional[bytes]:
+    """The checksum of the page that a picture shows."""
+    found = re.search(re.escape(MARK) + b"([0-9a-f]{64})", picture)
+    return found[1] if found else None
+
+
+def with_checksum(picture: bytes, of: bytes) -> bytes:
+    """A PNG with a checksum as a text before its last chunk."""
+    text = MARK + of
+    chunk = struct.pack(">I", len(text) - 4) + text + struct.pack(">I", zlib.crc32(text))
+    return picture[:-12] + chunk + picture[-12:]
+
+
+def draw_readme(browser: str, picture: pathlib.Path) -> None:
+    """README's picture, in 32 colours."""
+    with tempfile.TemporaryDirectory() as folder:
+        page = readme_page(pathlib.Path(folder))
+        shown = pathlib.Path(folder) / "page.html"
+        shown.write_text(page)
+        drawn(browser, shown.as_uri(), (1280, 880), picture)
+    small = subprocess.run(["pngquant", "32", "-"], input=picture.read_bytes(), stdout=subprocess.PIPE, timeout=60, check=True).stdout
+    picture.write_bytes(with_checksum(small, checksum(page)))
 
 
 def complaints(url: str) -> None:
@@ -102,21 +175,20 @@ def main() -> int:
     for name, (objects, kept) in moments:
         site = folder / name
         site.mkdir(parents=True, exist_ok=True)
-        fill_database(site, list(objects.values()), figures(len(objects)), tuple(kept))
+        fill(site, objects, kept)
         server = Server(("127.0.0.1", 0), SiteFolder(site))
         threading.Thread(target=server.serve_forever, daemon=True).start()
-        pages = {name: ""} if not kept else {name: "", "object": "object?name=" + urllib.parse.quote("web-00")}
-        for width in (1280, 400):
-            for page, path in pages.items():
-                if found:
-                    drawn(found[0], server.url() + path, width, folder / f"{page}-{width}.png")
-        if kept and found:
-            drawn(found[0], server.url(), 1280, folder / "page.png", 800)
+        others = {"all": "all", "host": "object?name=web-00", "service": "object?name=web-00%3Bhttp"}
+        for place, colours, (page, path) in itertools.product(SIZES, COLOURS, {name: "", **(others if kept else {})}.items()):
+            if found:
+                drawn(found[0], server.url() + path, SIZES[place], folder / f"{page}-{place}-{colours}.png", COLOURS[colours])
         if kept and shutil.which("promtool"):
             complaints(server.url())
         server.shutdown()
         server.server_close()
-    for what, there in (("a browser", bool(found)), ("promtool", shutil.which("promtool") is not None)):
+    if found and shutil.which("pngquant"):
+        draw_readme(found[0], folder / "page.png")
+    for what, there in (("a browser", bool(found)), ("pngquant", shutil.which("pngquant") is not None), ("promtool", shutil.which("promtool") is not None)):
         if not there:
             print(f"passed over: {what} isn't here")
     return 0

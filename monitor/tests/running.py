@@ -64,3 +64,10 @@ class ProcessTest(SiteTest):
 
     def objects(self, count: int, **members: Any) -> List[Dict[str, Any]]:
         return [{"name": f"h{number:02}", "check_interval": 1, "max_check_attempts": 2, **members} for number in range(count)]
+
+    def refusal(self) -> str:
+        """The words of a monitor that doesn't start."""
+        command = [sys.executable, str(MONITOR), "--program", PROGRAM, str(self.folder)]
+        refused = subprocess.run(command, capture_output=True, text=True, check=False, timeout=2 * LONG)
+        self.assertEqual(refused.returncode, 1)
+        return refused.stderr

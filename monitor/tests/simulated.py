@@ -10,12 +10,12 @@ from typing import Any, Callable, Dict, List, Mapping, Optional, Set, Tuple
 
 from nagsched_monitor.core.engine import Engine
 from nagsched_monitor.core.requests import Request
+from nagsched_monitor.model.clock import Clock
 from nagsched_monitor.model.jobs import Event, Job, JobFinished, JobLost
-from nagsched_monitor.model.run_table import Owner
+from nagsched_monitor.model.objects import Owner
 from nagsched_monitor.program.loop import Loop
 from nagsched_monitor.run.runners import RunnerPools
-from nagsched_monitor.scheduler.live_process import Conversation
-from nagsched_monitor.scheduler.schedulers import ConversationFactory
+from nagsched_monitor.scheduler.schedulers import Conversation, ConversationFactory
 from nagsched_monitor.scheduler.scheduling import Scheduling
 from nagsched_monitor.site.site import Site, read_site
 from nagsched_monitor.store.rows import StoredChange, StoredResult
@@ -33,7 +33,7 @@ Plugin = Callable[[str, int], Tuple[int, int, str]]
 
 
 @dataclass
-class SimulatedClock:
+class SimulatedClock(Clock):
     now: int = BEGIN
     # The difference to which the wall clock is set.
     wall_is_off: float = 0.0

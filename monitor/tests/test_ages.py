@@ -10,7 +10,7 @@ ALWAYS = {day: ["00:00-24:00"] for day in ("monday", "tuesday", "wednesday", "th
 
 class Ages(SiteTest):
     def overdue(self, monitor: SimulatedMonitor) -> Tuple[int, int]:
-        found = monitor.engine.ages.overdue()
+        found = monitor.engine.checks.overdue()
         return found.number, found.promised
 
     def lose(self, monitor: SimulatedMonitor) -> None:

@@ -1,27 +1,21 @@
-"""The alerts that are posted to Alertmanager, over a server that accepts them. Prometheus's own tools accept the files of the examples."""
+"""The alerts that are posted to Alertmanager, over a server that accepts them."""
 import datetime
 import http.server
 import json
-import pathlib
-import re
-import shutil
 import socket
-import subprocess
-import tempfile
 import threading
 import time
-import unittest
 from typing import Any, Dict, List, Tuple
 from unittest import mock
 
+from nagsched_monitor.model.remarks import Remark
 from nagsched_monitor.outputs import alertmanager
-from nagsched_monitor.outputs.alertmanager import FLAPPING, HEARTBEAT, NOT_CHECKED, PROBLEM, SEVERITIES, AlertPoster
-from nagsched_monitor.outputs.nagios_blocks import HOST_STATES, SERVICE_STATES
+from nagsched_monitor.outputs.alertmanager import FLAPPING, HEARTBEAT, HELD, NOT_CHECKED, PROBLEM, AlertPoster
+from nagsched_monitor.store.remark_table import store_remark
+from nagsched_monitor.store.store import Store, delete
 
 from .shown_site import fill_database, standing
 from .simulated import SiteTest
-
-EXAMPLES = pathlib.Path(__file__).resolve().parent.parent.parent / "examples"
 
 
 class Posting(SiteTest):
@@ -117,6 +111,34 @@ class Posting(SiteTest):
         latest = max(datetime.datetime.fromisoformat(it["startsAt"]).timestamp() for it in found.values())
         self.assertLessEqual(latest, time.time())
 
+    def test_held_objects(self) -> None:
+        """Each has an alert with its labels, which is posted before the others and ends with its remarks; the others stay."""
+        now = time.time()
+        fill_database(self.folder, [standing("web"), standing("web;http", "CRITICAL"), standing("web;ssh", "OK"), standing("db;disk", "WARNING", "SOFT"),
+                                    standing("db;load", "WARNING"), standing("db")])
+        store = Store(self.folder)
+        remarks = [Remark(1, "downtime", "web", "ada", "new disk", now, now - 9, now + 60), Remark(2, "comment", "db;load", "bob", "x", now, now),
+                   Remark(3, "acknowledgement", "db;disk", "bob", "known\nsince May", now, now, state="WARNING"),
+                   Remark(4, "downtime", "db;load", "ada", "later", now, now + 600, now + 900)]
+        store.write(*map(store_remark, remarks))
+        problems = [(PROBLEM, "db", "load", True), (PROBLEM, "web", "http", True)]
+        held = [(HELD, "db", "disk", True), (HELD, "web", "", True), (HELD, "web", "http", True), (HELD, "web", "ssh", True)]
+        self.assertEqual(self.look(), [*held, *problems])
+        self.assertEqual([{it["labels"]["alertname"] for it in posted} for posted in self.posted], [{HEARTBEAT}, {HELD}, {PROBLEM}])
+        found = {(it["labels"]["host"], it["labels"].get("service")): it for it in self.posted[1]}
+        self.assertEqual(found["web", "http"]["labels"], {"alertname": HELD, "site": self.folder.name, "host": "web", "service": "http", "severity": "none"})
+        self.assertEqual([found[name]["annotations"]["summary"] for name in (("web", "http"), ("db", "disk"))],
+                         ["web http is held: downtime by ada: new disk", "db disk is held: acknowledgement by bob: known"])
+        ends = [datetime.datetime.fromisoformat(found[name]["endsAt"]).timestamp() - now for name in (("web", "http"), ("db", "disk"))]
+        self.assertAlmostEqual(ends[0], 60, delta=0.01)
+        self.assertAlmostEqual(ends[1], alertmanager.ENDS, delta=60)
+        store.write(delete("remarks", "id = 1"))
+        self.assertEqual(self.look(), [held[0], *((*each[:3], False) for each in held[1:]), *problems])
+        store.write(store_remark(Remark(5, "mute", "", "ada", "move", now, now)))
+        self.assertEqual([each for each in self.look() if each[0] == HELD], [
+            (HELD, host, service, True) for host, service in (("db", ""), ("db", "disk"), ("db", "load"), ("web", ""), ("web", "http"), ("web", "ssh"))])
+        store.close()
+
     def test_what_objects_want(self) -> None:
         """Labels for routes from groups.json, and annotations from inventory.json; both files are read again when they change."""
         mock.patch.object(alertmanager, "EVERY", 0).start()
@@ -155,12 +177,17 @@ class Posting(SiteTest):
         self.assertEqual([self.look(), self.look()], [[(PROBLEM, "web", "", True)]] * 2)
 
     def test_one_that_only_takes(self) -> None:
-        """A receiver that can't be asked for its alerts: those that this process posted are ended."""
+        """A receiver that can't be asked for its alerts: those that this process posted are ended, and the log says once what isn't."""
         self.is_write_only = True
         fill_database(self.folder, [standing("web"), standing("web;http", "CRITICAL")])
         self.assertEqual([self.look(), self.look()], [[(PROBLEM, "web", "http", True)], []])
         fill_database(self.folder, [standing("web"), standing("web;http", "OK")])
-        self.assertEqual([self.look(), self.look(), self.lines], [[(PROBLEM, "web", "http", False)], [], []])
+        self.assertEqual([self.look(), self.look(), len(self.lines)], [[(PROBLEM, "web", "http", False)], [], 1])
+        self.assertRegex(self.lines[0], "doesn't say which alerts it has .*501.*lasts up to 6 hours: allow GET of http")
+        for is_write_only, count in ((False, 1), (True, 2)):
+            self.is_write_only, self.alerts._next_post = is_write_only, 0.0
+            self.look()
+            self.assertEqual(len(self.lines), count)
 
     def test_one_that_was_restarted(self) -> None:
         """It has forgotten all alerts, and gets the end of one that ended meanwhile, so that it tells of it."""
@@ -233,92 +260,17 @@ class Posting(SiteTest):
         begins = [datetime.datetime.fromisoformat(it["startsAt"]).timestamp() for alerts in self.posted for it in alerts]
         self.assertLessEqual(max(begins), time.time())
 
+    def test_signs_of_life(self) -> None:
+        """Each request shows that this process is at work: the heartbeat, all four, two and two, and one and one of these."""
+        signs: List[bool] = []
+        self.alerts, self.refused = AlertPoster(self.url, self.folder, log=self.lines.append, alive=lambda: signs.append(True)), "h3"
+        fill_database(self.folder, [standing(f"h{number}", "DOWN") for number in range(4)])
+        self.look()
+        self.assertEqual(len(signs), 6)
+
     def test_links(self) -> None:
         self.alerts = AlertPoster(self.url, self.folder, "http://monitor.example.org/", self.lines.append)
         fill_database(self.folder, [standing("web"), standing("web;load 5", "WARNING", is_on=False)])
         self.look()
         self.assertEqual(self.posted[-1][0]["generatorURL"], "http://monitor.example.org/object?name=web%3Bload%205")
         self.assertEqual(self.posted[-1][0]["annotations"]["checks"], "off")
-
-
-class Examples(unittest.TestCase):
-    def check(self, *words: str) -> None:
-        if shutil.which(words[0]) is None:
-            self.skipTest(f"{words[0]} isn't here")
-        ran = subprocess.run([*words[:-1], str(EXAMPLES / words[-1])], stdout=subprocess.PIPE, stderr=subprocess.STDOUT, text=True, check=False)
-        self.assertEqual(ran.returncode, 0, ran.stdout)
-
-    def test_the_configuration_of_alertmanager(self) -> None:
-        self.check("amtool", "check-config", "alertmanager.yml")
-
-    def test_both_ways_give_the_same_severity(self) -> None:
-        """The rules for those who let Prometheus make alerts of problems, and the monitor's own alerts."""
-        rules = re.findall(r"- alert: NagschedProblem\n +expr: (.*) unless .*\n +labels: {severity: (\w+)}", (EXAMPLES / "alert_rules.yml").read_text())
-        severities: Dict[str, str] = {}
-        for expression, severity in rules:
-            for sign, number in re.findall(r'service(!?=)""} == (\d)', expression):
-                states = SERVICE_STATES if sign == "!=" else HOST_STATES
-                severities |= {state: severity for state, its in states.items() if its == int(number)}
-        self.assertEqual(severities, SEVERITIES)
-
-    def test_the_rules(self) -> None:
-        self.check("promtool", "check", "rules", "--lint-fatal", "alert_rules.yml")
-
-    def test_the_configuration_of_prometheus(self) -> None:
-        self.check("promtool", "check", "config", "prometheus.yml")
-
-    def test_what_the_rules_tell(self) -> None:
-        """With promtool: each rule's alert after some minutes of these figures, and no alert while all is well."""
-        if shutil.which("promtool") is None:
-            self.skipTest("promtool isn't here")
-        well = {"up": "1+0x60", "last_turn_timestamp_seconds": "0+60x60", "stuck": "0+0x60", "overdue": "0+0x60",
-                "passive_waiting": "0+0x60", "oldest_change_seconds": "0+0x60",
-                "runners_stuck": "0+0x60", "runners": "4+0x60", "runners_wanted": "4+0x60", "faults_total": "0+0x60", "state": "0+0x60"}
-        for figure, values, alert in (
-            ("up", "0+0x60", "NagschedNoAnswer"), ("last_turn_timestamp_seconds", "0+0x60", "NagschedStandsStill"), ("stuck", "1+0x60", "NagschedStuck"),
-            ("overdue", "3+0x60", "NagschedNotChecked"),
-            ("passive_waiting", "2000+0x60", "NagschedPassiveResultsWait"), ("oldest_change_seconds", "700+0x60", "NagschedChangesWait"),
-            ("runners_stuck", "1+0x60", "NagschedRunnersStuck"), ("runners", "3+0x60", "NagschedRunnersMissing"), ("faults_total", "0+1x60", "NagschedFaults"),
-            ("state", "2+0x60", "NagschedProblem"),
-        ):
-            for is_wrong in (True, False):
-                series = [{"series": f'nagsched_{name}{{site="a",host="h"}}', "values": values if name == figure and is_wrong else usual}
-                          for name, usual in well.items()]
-                expected = [{"eval_time": "30m", "alertname": alert, "exp_alerts": []}]
-                test = {"rule_files": [str(EXAMPLES / "alert_rules.yml")], "evaluation_interval": "1m",
-                        "tests": [{"interval": "1m", "input_series": series, "alert_rule_test": expected}]}
-                with tempfile.NamedTemporaryFile("w", suffix=".yml") as file:
-                    json.dump(test, file)  # which YAML reads too
-                    file.flush()
-                    ran = subprocess.run(["promtool", "test", "rules", file.name], stdout=subprocess.PIPE, stderr=subprocess.STDOUT, text=True, check=False)
-                self.assertEqual((ran.returncode == 0, "got:[" in ran.stdout.replace(" ", "").replace("\n", "")), (not is_wrong, is_wrong), (alert, ran.stdout))
-
-    def test_each_figure_of_a_rule_is_there(self) -> None:
-        told = (EXAMPLES.parent / "monitor/nagsched_monitor/outputs/metrics.py").read_text()
-        for line in (EXAMPLES / "alert_rules.yml").read_text().splitlines():
-            for word in line.replace("_bucket", "").replace("(", " ").replace("{", " ").replace("[", " ").split() if "expr:" in line else ():
-                if word.startswith("nagsched_"):
-                    self.assertIn(f'"{word.rstrip(")")}"', told)
-
-    def test_routes(self) -> None:
-        """The receivers, by the labels of an alert."""
-        if shutil.which("amtool") is None:
-            self.skipTest("amtool isn't here")
-        for labels, wanted in (
-            (f"alertname={PROBLEM} host=web severity=critical", "operators"), (f"alertname={PROBLEM} host=far severity=unreachable", "nobody"),
-            (f"alertname={HEARTBEAT} severity=none", "dead-mans-switch"),
-            (f"alertname={PROBLEM} host=web service=http severity=critical contact_groups=,ops,web-team,", "pager,web-team"),
-            (f"alertname={PROBLEM} host=web service=http severity=unknown contact_groups=,web-team,", "web-team"),
-            (f"alertname={PROBLEM} host=web service=http severity=critical contact_groups=,web-team-2,", "operators"),
-            *((f"alertname={PROBLEM} host=web service=http severity={severity} contact_groups=,web-team, notification_options=,none,", "nobody")
-              for severity in ("warning", "critical", "unknown")),
-            (f"alertname={FLAPPING} host=web severity=warning notification_options=,critical,recovery,", "nobody"),
-            (f"alertname={FLAPPING} host=web severity=warning notification_options=,flapping,recovery,", "operators"),
-            (f"alertname={PROBLEM} host=web service=http severity=warning notification_options=,critical,recovery,", "nobody"),
-            (f"alertname={PROBLEM} host=web service=http severity=critical notification_options=,critical,recovery,", "operators"),
-            (f"alertname={PROBLEM} host=web service=http severity=critical notification_options=,critical,", "operators-without-recoveries"),
-            (f"alertname={PROBLEM} host=web service=http severity=critical contact_groups=,web-team, notification_options=,critical,", "pager,web-team"),
-        ):
-            words = ["amtool", "config", "routes", "test", f"--config.file={EXAMPLES / 'alertmanager.yml'}", *labels.split()]
-            ran = subprocess.run(words, stdout=subprocess.PIPE, stderr=subprocess.DEVNULL, text=True, check=False)
-            self.assertEqual(ran.stdout.strip(), wanted, labels)

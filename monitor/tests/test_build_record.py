@@ -4,7 +4,7 @@ import pathlib
 import tempfile
 import unittest
 
-from nagsched_monitor.program.build_record import build_line
+from nagsched_monitor.program.monitor import build_line
 
 RECORD = "version: 1.2.3\ncommit: 0123456789ab\nkit: a kit\nproofs: not proved\nsha256: {}\n"
 

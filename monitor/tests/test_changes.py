@@ -9,15 +9,15 @@ import warnings
 from typing import List, Optional
 from unittest import mock
 
+from nagsched_monitor.core.requests import test_document
 from nagsched_monitor.faults import MonitorFault, NotStored
-from nagsched_monitor.model.definitions import ObjectDefinition
-from nagsched_monitor.model.object_state import ObjectState, StateHistory
+from nagsched_monitor.model.clock import Clock
+from nagsched_monitor.model.objects import ObjectDefinition, ObjectState, RunTable, StateHistory
 from nagsched_monitor.model.protocol import Standing
-from nagsched_monitor.model.run_table import RunTable
 from nagsched_monitor.outputs import changes
 from nagsched_monitor.outputs.changes import AT_ONCE, MOST_AGE, PAUSE, Notifier, change_line
-from nagsched_monitor.scheduler.changes import change_document, is_change, is_important, test_document
 from nagsched_monitor.site.command_lines import test_shell_line
+from nagsched_monitor.store.counters import Counters
 from nagsched_monitor.store.rows import StoredChange
 from nagsched_monitor.store.store import Store, store_change, store_figures
 
@@ -45,21 +45,21 @@ class Changes(SiteTest):
             (standing("UP", flapping=True), standing("UP"), True, True),
         )
         for before, now, printed, counts in rows:
-            self.assertEqual((is_change(before, now), is_change(before, now) and is_important(before, now)), (printed, counts), (before, now))
+            self.assertEqual((now.is_change(before), now.is_change(before) and now.is_important(before)), (printed, counts), (before, now))
 
     def test_the_line(self) -> None:
         change = StoredChange(1, 1_795_766_400.0, "web;http", "CRITICAL", "HARD", 3, True, "no answer")
         self.assertEqual(change_line(change, datetime.timezone.utc), "2026-11-27 08:00:00+00:00 web;http is CRITICAL HARD 3 FLAPPING: no answer")
 
 
-class Command(SiteTest):
+class Command(SiteTest, Clock):
     def setUp(self) -> None:
         super().setUp()
         self.store = Store(self.folder)
         self.addCleanup(self.store.close)
         self.lines: List[str] = []
-        self.aside: List[int] = []
         self.passed = 0
+        self.counters = Counters({}, self)
 
     def moment(self) -> int:
         return 1_000_000 + round(time.monotonic() * 1000) + self.passed
@@ -72,10 +72,10 @@ class Command(SiteTest):
             self.store.last_call += 1
             number = self.store.last_call
             change = StoredChange(number, 1000.0 * number, f"{prefix}{number}", "DOWN", "HARD", 3, False, 'a "word"')
-            self.store.write(store_change(change, change_document(change, None), self.moment() - age))
+            self.store.write(store_change(change, change.document(None), self.moment() - age))
 
     def notifier(self, command: Optional[str]) -> Notifier:
-        made = Notifier(command, self.store, self.lines.append, self, lambda: self.aside.append(1))
+        made = Notifier(command, self.store, self.lines.append, self, self.counters)
         self.addCleanup(made.close)
         return made
 
@@ -84,8 +84,7 @@ class Command(SiteTest):
         notifier = self.notifier(command)
         end = time.monotonic() + seconds
         while self.store.outbox() and time.monotonic() < end:
-            notifier.work()
-            self.passed += 0 if notifier.is_busy() else 2 * PAUSE
+            self.passed += 0 if notifier.work() else 2 * PAUSE
             time.sleep(0.002)
 
     def taken(self) -> List[str]:
@@ -124,12 +123,12 @@ class Command(SiteTest):
         self.keep(1, prefix="bad")
         change = StoredChange(99, 1.0, "bad4", "UP", "HARD", 1, False, "")
         self.store.last_call = 99
-        self.store.write(store_change(change, change_document(change, None), self.moment()))
+        self.store.write(store_change(change, change.document(None), self.moment()))
         self.keep(3, prefix="z")
         self.worked(f"while read -r line; do case $line in *bad4*DOWN*) exit 1;; esac; echo \"$line\" >> {self.folder}/taken; done")
         self.assertEqual(sorted(set(self.taken())), ["a1", "a2", "a3", "bad4", "z100", "z101", "z102"])
         self.assertLessEqual(max(self.taken().count(name) for name in self.taken()), 4)
-        self.assertEqual((len(self.aside), self.store.outbox()), (1, []))
+        self.assertEqual((self.counters.changed_figures(0, {})["changes_aside"], self.store.outbox()), (1, []))
         self.assertEqual([json.loads(document)["state"] for (document,) in self.store._database.execute("SELECT document FROM not_taken")], ["DOWN"])
 
     def test_a_relay_that_is_away_for_hours(self) -> None:
@@ -138,14 +137,13 @@ class Command(SiteTest):
         notifier = self.notifier(f"test -e {self.folder}/up && cat >> {self.folder}/taken")
 
         def is_done() -> bool:
-            notifier.work()
-            self.passed += 0 if notifier.is_busy() else 30_000
+            self.passed += 0 if notifier.work() else 30_000
             if self.passed > 3_600_000:
                 (self.folder / "up").touch()
             return not self.store.outbox()
 
         self.assertTrue(becomes_true(is_done))
-        self.assertEqual((sorted(self.taken()), self.aside), (sorted(f"h{number}" for number in range(1, 4)), []))
+        self.assertEqual((sorted(self.taken()), self.counters.changed_figures(0, {}).get("changes_aside")), (sorted(f"h{number}" for number in range(1, 4)), None))
         self.assertEqual(self.lines, ["the command for changes ended with 1; it is tried again"])
 
     def test_one_that_is_too_old_is_given_up_by_name(self) -> None:
@@ -190,8 +188,7 @@ class Command(SiteTest):
         notifier = self.notifier(f"cat >> {self.folder}/taken")
 
         def is_said() -> bool:
-            notifier.work()
-            self.passed += 0 if notifier.is_busy() else 10_000
+            self.passed += 0 if notifier.work() else 10_000
             return bool(self.lines)
 
         with mock.patch.object(self.store, "write", side_effect=NotStored("the disk is full")):
@@ -216,11 +213,9 @@ class Command(SiteTest):
             warnings.simplefilter("ignore", ResourceWarning)  # of the processes that nobody waits for
             notifier.work()
             self.passed += 1_000
-            notifier.work()
-            self.assertFalse(notifier.is_busy())
+            self.assertFalse(notifier.work())
             self.passed += 10_000
-            notifier.work()
-            self.assertTrue(notifier.is_busy())
+            self.assertTrue(notifier.work())
             notifier.close()
         self.assertEqual(self.lines, ["the command for changes took longer than 0.1 seconds; it is tried again"])
         self.assertEqual(len(self.store.outbox()), 1)
@@ -234,7 +229,7 @@ class Command(SiteTest):
                 for _ in range(3):
                     notifier.work()
                     self.passed += 100_000
-        self.assertEqual(self.lines, ["the command for changes waits: [Errno 28] no room; it is tried again"])
+        self.assertEqual(self.lines, ["the command for changes waits: no room: make room on its disk; it is tried again"])
         self.passed += 100_000
         notifier.work()
         notifier.close()

@@ -10,7 +10,7 @@ from nagsched_monitor.inputs import client, control
 
 from nagsched_monitor.core.requests import Request
 from nagsched_monitor.faults import MonitorFault
-from nagsched_monitor.system.poller import FilePoller
+from nagsched_monitor.system.poller import FilePoller, keep_trying
 
 from .simulated import SiteTest
 from .waiting import becomes_true
@@ -144,7 +144,7 @@ class Socket(SiteTest):
             each.close()
         again = self.asking()
         with mock.patch.object(socket.socket, "connect", side_effect=[BlockingIOError(11, "again"), BlockingIOError(11, "again"), None]) as tried:
-            client.connect(again, "x", 30)
+            keep_trying(lambda: again.connect("x"), 30)
         self.assertEqual(tried.call_count, 3)
 
     def test_one_that_says_nothing_is_forgotten(self) -> None:

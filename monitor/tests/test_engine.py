@@ -2,7 +2,24 @@
 import collections
 from typing import Dict, Tuple
 
+from nagsched_monitor.model.protocol import Take
+from nagsched_monitor.scheduler.scheduling import Plan
+
 from .simulated import BEGIN, SimulatedClock, SimulatedMonitor, SiteTest, fine, host, service
+
+
+class Takes(SiteTest):
+    def test_their_number(self) -> None:
+        """One for each object that is due, except those whose checks the plan sets to later, and for those that it sets to now."""
+        self.write_site([host(name) for name in "abcd"], [])
+        monitor = self.monitor(fine)
+        monitor.run(50)
+        now = monitor.clock.now
+        for passed, later, at_once, wanted in ((0, "", "", 0), (0, "a", "", 0), (0, "", "a", 1), (0, "a", "a", 1), (3600, "", "", 4), (3600, "a", "", 3),
+                                               (3600, "", "a", 4), (3600, "a", "a", 4), (3600, "ab", "bc", 3), (3600, "abcd", "", 0)):
+            plan = Plan(later=set(later), at_once=set(at_once))
+            monitor.engine.checks.plan_takes(plan, now + passed * 1000)
+            self.assertEqual(plan.calls, [(0, Take(now + passed * 1000), None)] * wanted, (passed, later, at_once))
 
 
 class Pauses(SiteTest):

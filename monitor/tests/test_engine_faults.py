@@ -4,7 +4,7 @@ from unittest import mock
 
 from nagsched_monitor.faults import ConversationEnded, NotStored
 from nagsched_monitor.model.jobs import Job, JobFinished, JobLost, StuckJobEnded
-from nagsched_monitor.scheduler.live_process import Conversation
+from nagsched_monitor.scheduler.schedulers import Conversation
 from nagsched_monitor.site.site import read_site
 
 from .simulated import BEGIN, PROGRAM, SiteTest, fine, host, service

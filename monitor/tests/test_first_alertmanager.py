@@ -1,27 +1,23 @@
-"""The alertmanager.yml that the converter writes: whom it notifies during a day, compared with Nagios. The wanted values are worked out from Nagios's rules.
+"""The alertmanager.yml that the converter writes: whom it notifies during a day, compared with Nagios. The wanted values are worked out from Nagios's rules;
+packages_notifications compares them with a running Nagios.
 
-A model of Alertmanager counts notifications minute by minute, over the routes, times and inhibition of the file. amtool finds the same receivers for each
-alert, and accepts the file.
+A model of Alertmanager counts notifications, and amtool finds the same receivers for each alert, and accepts the file.
 """
-import calendar
 import datetime
 import json
-import re
 import shutil
 import subprocess
 import sys
-from typing import Any, Dict, Iterator, List, NamedTuple, Optional, Sequence, Tuple
+from typing import Any, Dict, List, Sequence, Tuple
 
 from nagsched_monitor.outputs.alertmanager import FLAPPING, PROBLEM
-from nagsched_monitor.site.groups_file import labels_of, read_groups
+from nagsched_monitor.site.people_files import labels_of, read_groups
 from nagsched_monitor.site.periods import Periods, read_periods
 
-from .test_from_nagios import SCRIPT, Converting, defined
+from .alert_model import DAYS, Event, Labels, Model, Told, is_within
+from .converting import SCRIPT, Converting, defined
 from .waiting import LONG
 
-# A Wednesday.
-DAY = datetime.datetime(2026, 12, 2)
-DAYS = ("monday", "tuesday", "wednesday", "thursday", "friday", "saturday", "sunday")
 ALL_OF_HOSTS, ALL_OF_SERVICES = "r,d,u,f,s", "r,w,u,c,f,s"
 # The contacts: their period, and their options for hosts and for services. Eve's notifications about hosts are switched off.
 CONTACTS = {
@@ -41,18 +37,6 @@ OBJECTS: Dict[str, Dict[str, str]] = {
 ESCALATIONS = {"web;http": {"contacts": "hal", **TEAM}, "web;pay": {"contacts": "hal"}}
 
 
-class Event(NamedTuple):
-    """An alert, its first minute and the minute of its end."""
-
-    name: str
-    severity: str
-    begin: int
-    end: int
-    alert: str = PROBLEM
-
-
-# What a contact gets of an event: how often it is told, the minute when it is told first, and whether it is told of the end.
-Told = Tuple[int, int, bool]
 EVENTS: Dict[str, Sequence[Event]] = {
     "http at night": [Event("web;http", "critical", 180, 220)],
     "pay": [Event("web;pay", "critical", 300, 350)],
@@ -75,8 +59,9 @@ NAGIOS: Dict[str, Dict[str, Told]] = {
     "pay": {**{name: (1, 300, False) for name in ("ann", "bob", "cy", "eve", "gus")}, "hal": (1, 330, True)},
     "unknown": {name: (1, 420, True) for name in ("ann", "eve", "gus", "jon")},
     "before work": {"ann": (3, 500, True), "cy": (3, 500, False), "dee": (1, 560, True), "eve": (3, 500, True), "gus": (2, 500, False), "hal": (2, 530, True)},
-    "web is down": {"ann": (2, 600, True), "bob": (2, 600, True), "cy": (2, 600, False), "dee": (2, 600, True)},
-    "gw is down": {"ann": (4, 720, True), "dee": (2, 720, True), "jon": (2, 720, True)},
+    # Nagios also notifies contacts of a host's recovery who weren't notified of the problem.
+    "web is down": {"ann": (2, 600, True), "bob": (2, 600, True), "cy": (2, 600, False), "dee": (2, 600, True), "jon": (0, 650, True)},
+    "gw is down": {"ann": (4, 720, True), "bob": (0, 760, True), "dee": (2, 720, True), "jon": (2, 720, True)},
     "load": {"ann": (2, 850, True), "bob": (2, 850, True), "cy": (2, 850, False), "dee": (2, 850, True), "eve": (2, 850, True)},
     "load is high": {}, "muted": {}, "mail at night": {},
     "mail": {"ann": (1, 940, True), "bob": (1, 940, True), "cy": (1, 940, False), "dee": (1, 940, True), "eve": (1, 940, True)},
@@ -84,101 +69,12 @@ NAGIOS: Dict[str, Dict[str, Told]] = {
     "sql": {"bob": (2, 1260, True)},
     "slow sql": {"ann": (1, 1331, True), "bob": (1, 1331, True), "cy": (1, 1331, False), "eve": (1, 1331, True), "gus": (1, 1331, True)},
 }
-# Where Alertmanager does something else: contacts whom an escalation replaces are still notified, and a period that begins is noticed at once.
+# Differences of Alertmanager: contacts whom an escalation replaces are still notified, and a period that begins is noticed at once. It notifies nobody
+# of the end alone.
 DIFFERENT: Dict[str, Dict[str, Told]] = {
     "pay": {name: (2, 300, name != "cy") for name in ("ann", "bob", "cy", "eve", "gus")},
     "before work": {"dee": (1, 540, True)},
 }
-
-Labels = Dict[str, str]
-
-
-def matches(labels: Labels, matchers: Sequence[str]) -> bool:
-    return all(matches_one(labels, each) for each in matchers)
-
-
-def matches_one(labels: Labels, text: str) -> bool:
-    match = re.fullmatch(r'(\w+) (=~|!=|!~|=) "(.*)"', text)
-    assert match is not None, text
-    value, wanted = labels.get(match[1], ""), re.sub(r"\\(.)", r"\1", match[3])
-    is_same = bool(re.fullmatch(wanted, value)) if "~" in match[2] else value == wanted
-    return is_same != match[2].startswith("!")
-
-
-def routes_of(labels: Labels, route: Dict[str, Any], above: Dict[str, Any]) -> List[Dict[str, Any]]:
-    """The routes that take an alert, with the timing that they inherit."""
-    timing = {key: route.get(key, above.get(key)) for key in ("receiver", "group_wait", "repeat_interval")}
-    times = {key: route[key] for key in ("active_time_intervals", "mute_time_intervals") if key in route}
-    found: List[Dict[str, Any]] = []
-    for below in route.get("routes", ()):
-        if matches(labels, below["matchers"]):
-            found += routes_of(labels, below, timing)
-            if not below.get("continue"):
-                break
-    return found or [{**timing, **times}]
-
-
-def is_within(pieces: Sequence[Dict[str, Any]], at: datetime.datetime) -> bool:
-    """Whether one of the pieces of a time interval includes a time."""
-    of_month = calendar.monthrange(at.year, at.month)[1]
-
-    def has(day: object) -> bool:
-        """A range of days of the month, or one of them. Negative ones count from its end."""
-        first, _, last = str(day).partition(":")
-        begin, end = (max(min(int(each), of_month), -of_month) for each in (first, last or first))
-        return (begin if begin > 0 else of_month + begin + 1) <= at.day <= (end if end > 0 else of_month + end + 1) and (int(first) <= of_month)
-
-    today = [each for each in pieces if at.year in each.get("years", [at.year]) and at.month in each.get("months", [at.month])
-             and DAYS[at.weekday()] in each.get("weekdays", DAYS) and any(map(has, each.get("days_of_month", ["1:31"])))]
-    return any(times["start_time"] <= f"{at:%H:%M}" < times["end_time"] for each in today for times in each["times"])
-
-
-def minutes(text: str) -> int:
-    number, unit = int(text[:-1]), text[-1]
-    return number * {"s": 1, "m": 60, "w": 604_800}[unit] // 60
-
-
-class Model:
-    """Alertmanager on one day."""
-
-    def __init__(self, config: Dict[str, Any], alerts: Sequence[Tuple[Event, Labels]]) -> None:
-        self._config, self._alerts = config, alerts
-        self._recoveries = {each["name"] for each in config["receivers"] if each.get("email_configs", [{}])[0].get("send_resolved")}
-        self._times = {each["name"]: each["time_intervals"] for each in config["time_intervals"]}
-
-    def routes(self, labels: Labels) -> List[Dict[str, Any]]:
-        return routes_of(labels, self._config["route"], {})
-
-    def notifications(self) -> Iterator[Tuple[str, Told]]:
-        """What each receiver gets of each alert."""
-        for event, labels in self._alerts:
-            for route in self.routes(labels):
-                told = self._told(event, labels, route)
-                if told is not None and route["receiver"] != "nobody":
-                    yield route["receiver"].removesuffix(" without recoveries"), told
-
-    def _told(self, event: Event, labels: Labels, route: Dict[str, Any]) -> Optional[Told]:
-        sent: List[int] = []
-        for minute in range(event.begin + minutes(route["group_wait"]), event.end):
-            if not self._is_silent(labels, route, minute) and (not sent or minute - sent[-1] >= minutes(route["repeat_interval"])):
-                sent.append(minute)
-        has_end = route["receiver"] in self._recoveries and not self._is_silent(labels, route, event.end)
-        return (len(sent), sent[0], has_end) if sent else None
-
-    def _is_silent(self, labels: Labels, route: Dict[str, Any], minute: int) -> bool:
-        active, mute = (route.get(key, []) for key in ("active_time_intervals", "mute_time_intervals"))
-        is_out = active and not any(self._is_in(name, minute) for name in active)
-        return bool(is_out) or any(self._is_in(name, minute) for name in mute) or self._is_inhibited(labels, minute)
-
-    def _is_in(self, name: str, minute: int) -> bool:
-        return is_within(self._times[name], DAY + datetime.timedelta(minutes=minute))
-
-    def _is_inhibited(self, labels: Labels, minute: int) -> bool:
-        standing = [its for event, its in self._alerts if event.begin <= minute < event.end and its != labels]
-        rules = [rule for rule in self._config["inhibit_rules"] if matches(labels, rule["target_matchers"])]
-        return any(matches(source, rule["source_matchers"]) and all(source.get(label, "") == labels.get(label, "") for label in rule["equal"])
-                   for rule in rules for source in standing)
-
 
 def nagios_objects() -> str:
     text = defined("command", {"command_name": "dummy", "command_line": "/bin/true"})
@@ -235,7 +131,7 @@ class FirstConfiguration(Converting):
             for contact, told in Model(config, [(event, self.labels(event)) for event in events]).notifications():
                 found.setdefault(contact, []).append(told)
             all_of = {contact: (sum(its[0] for its in told), min(its[1] for its in told), all(its[2] for its in told)) for contact, told in found.items()}
-            wanted = {**NAGIOS[name], **DIFFERENT.get(name, {})}
+            wanted = {contact: its for contact, its in {**NAGIOS[name], **DIFFERENT.get(name, {})}.items() if its[0]}
             self.assertEqual({contact: (count, has_end) for contact, (count, _, has_end) in all_of.items()},
                              {contact: (count, has_end) for contact, (count, _, has_end) in wanted.items()}, name)
             for contact, (_, first, _) in wanted.items():
@@ -270,7 +166,7 @@ class FirstConfiguration(Converting):
         for letter in "op":
             self.assertTrue(any(line.startswith(f"left out: notification_failure_options {letter} (1): ") for line in told), told)
         muted = [line for line in self.path.read_text().splitlines() if "NagschedProblem|NagschedFlapping" in line]
-        self.assertEqual(len(muted), 1)
+        self.assertEqual(len(muted), 2)  # one holds back what remarks hold
         if shutil.which("amtool") is not None:
             labels = [f"alertname={PROBLEM}", "host=h", "severity=critical", "contacts=,here,"]
             self.assertEqual(self.receivers(labels), ["nobody"])

@@ -1,23 +1,13 @@
-"""Taking over a configuration of Nagios: the values of macros, groups, the monitor's options, and files that are replaced together."""
-import fcntl
+"""Taking over a configuration of Nagios: the values of macros, groups, and the monitor's options."""
 import json
-import os
-import pathlib
 import subprocess
 import sys
-import tempfile
-import threading
-import unittest
-from typing import Any, Dict, List, Optional, Sequence, Tuple
-from unittest import mock
+from typing import Any, Dict, List, Optional, Tuple
 
-from nagsched_monitor.faults import SiteFault
-from nagsched_monitor.site import json_files
-from nagsched_monitor.site.json_files import lock_for_reading
 
+from .converting import SCRIPT, Converting, defined
 from .waiting import LONG
 
-SCRIPT = pathlib.Path(__file__).resolve().parents[2] / "tools/from_nagios.py"
 # As `nagios4 -vp` of Nagios Core 4.4.6 writes it: groups by name.
 GROUPS: Dict[str, Dict[str, str]] = {
     "contactgroup oncall": {"alias": "On call", "members": "ann"},
@@ -66,40 +56,7 @@ MACROS: Dict[str, Dict[str, Optional[str]]] = {
 }
 
 
-def defined(kind: str, members: Dict[str, str]) -> str:
-    return f"define {kind} {{\n" + "".join(f"\t{name}\t{value}\n" for name, value in members.items()) + "\t}\n"
-
-
-class Converting(unittest.TestCase):
-    """A folder for Nagios's files, and the site that is made of them."""
-
-    def setUp(self) -> None:
-        holder = tempfile.TemporaryDirectory()
-        self.addCleanup(holder.cleanup)
-        self.folder = pathlib.Path(holder.name)
-        self.site = self.folder / "site"
-
-    def taken(self, objects: str, options: str = "", words: Sequence[str] = ()) -> "subprocess.CompletedProcess[str]":
-        (self.folder / "nagios.cfg").write_text(f"interval_length=60\n{options}")
-        (self.folder / "objects").write_text(objects)
-        command = [sys.executable, str(SCRIPT), *words, "--site", str(self.site), str(self.folder / "nagios.cfg"), str(self.folder / "objects")]
-        return subprocess.run(command, capture_output=True, text=True, timeout=LONG, check=False)
-
-    def take(self, objects: str, options: str = "") -> str:
-        ran = self.taken(objects, options)
-        self.assertEqual(ran.returncode, 0, ran.stderr)
-        return ran.stderr
-
-    def read(self, name: str) -> Any:
-        return json.loads((self.site / f"{name}.json").read_text())
-
-
 class TakingOver(Converting):
-    def small(self, count: int = 1) -> str:
-        """Hosts with a command each, all with one number."""
-        hosts = "".join(defined("host", {"host_name": f"h{number}-{count}", "check_command": "dummy", "max_check_attempts": "3"}) for number in range(count))
-        return defined("command", {"command_name": "dummy", "command_line": f"/bin/true {count}"}) + hosts
-
     def network(self, commands: Dict[str, str]) -> str:
         """All objects, each with the command that is named for it."""
         text = "".join(defined(name.split()[0], {f"{name.split()[0]}_name": name.split()[1], **members}) for name, members in GROUPS.items())
@@ -239,6 +196,17 @@ class TakingOver(Converting):
             "db;plain": {"host_groups": ["alpha", "zebra"], "service_groups": ["zs"]},
         })
 
+    def test_groups_and_contacts(self) -> None:
+        """What people see of them is in directory.json, and who is in a contact group."""
+        contacts = defined("contact", {"contact_name": "ann", "alias": "Ann A", "email": "ann@example.org"}) + defined("contact", {"contact_name": "bob", "alias": "bob"})
+        self.take(self.network({name: "/bin/true" for name in {**HOSTS, **SERVICES}}) + contacts)
+        directory = self.read("directory")
+        self.assertEqual(directory["contact_groups"], {"oncall": {"alias": "On call", "members": ["ann"]}})
+        self.assertEqual(directory["contacts"], {"ann": {"alias": "Ann A", "email": "ann@example.org"}, "bob": {}})
+        self.assertEqual(directory["service_groups"], {"as": {"alias": "A services"}, "zs": {"alias": "Z services", "notes": "sg notes"}})
+        self.assertEqual(directory["host_groups"]["zebra"], {"alias": "The zebras", "notes": "group notes $HOSTNAME$", "notes_url": "http://g/$HOSTGROUPNAME$",
+                                                             "action_url": "http://a/"})
+
     def test_options_of_the_monitor(self) -> None:
         """The values in nagios.cfg count, then the earlier ones, then Nagios's defaults. Members that nagios.cfg can't express stay."""
         self.take(self.small())
@@ -297,67 +265,3 @@ class TakingOver(Converting):
         self.assertEqual(told, ["left out: quotes around values (1): an alias or custom variable has a sign that the shell of its command line obeys: bare"])
         self.assertEqual({name: entry.get("shell", False) for name, entry in self.read("commands").items()},
                          {"bare": True, "quoted": False, "plain": False, "piped": True})
-
-    def test_files_that_it_does_not_know_stay(self) -> None:
-        self.take(self.small())
-        (self.site / "runners.json").write_text("{}")
-        (self.site / "mirrors.json").write_text("{}")
-        (self.site / "part-1.json").write_text("{}")
-        self.take(self.small(2))
-        self.assertEqual(sorted(path.name for path in self.site.iterdir()),
-                         ["alertmanager.yml", "commands.json", "groups.json", "inventory.json", "monitor.json", "passive.json", "periods.json", "runners.json", "setup.json"])
-        self.assertEqual([(self.site / f"{name}.json").stat().st_mode & 0o777 for name in ("commands", "inventory", "groups")], [0o600, 0o600, 0o644])
-
-    @unittest.skipIf(os.geteuid() != 0, "only root can give files to others")
-    def test_owners(self) -> None:
-        """A file keeps its owner and group; a new one has those of the folder. Another user than the folder's can't write there."""
-        self.take(self.small())
-        os.chown(self.site, 1234, 1235)
-        os.chown(self.site / "setup.json", 1236, 1237)
-        (self.site / "groups.json").unlink()
-        self.take(self.small(2))
-        owners = {name: ((self.site / name).stat().st_uid, (self.site / name).stat().st_gid) for name in ("setup.json", "groups.json", "commands.json")}
-        self.assertEqual(owners, {"setup.json": (1236, 1237), "groups.json": (1234, 1235), "commands.json": (0, 0)})
-        as_another = ("import os, runpy, sys; os.geteuid = lambda: 1238; del sys.argv[0]; sys.path[0] = os.path.dirname(sys.argv[0]); "
-                      "runpy.run_path(sys.argv[0], {}, '__main__')")
-        words = [str(SCRIPT), "--site", str(self.site), str(self.folder / "nagios.cfg"), str(self.folder / "objects")]
-        ran = subprocess.run([sys.executable, "-c", as_another, *words], capture_output=True, text=True, timeout=LONG, check=False)
-        self.assertEqual(ran.returncode, 1)
-        self.assertRegex(ran.stderr, f"^from_nagios: {self.site} belongs to the user 1236, who .*: run this as that user or root$")
-        self.assertEqual(list(self.site.glob("*.new")), [])
-
-    def test_a_reader_sees_all_files_of_one_time(self) -> None:
-        """The holder of the folder's lock finds commands of exactly the existing hosts."""
-        self.take(self.small(1))
-        is_over = threading.Event()
-        seen: List[int] = []
-        different: List[int] = []
-
-        def read() -> None:
-            while not is_over.is_set():
-                with lock_for_reading(self.site):
-                    hosts = sorted(host["name"] for host in self.read("setup")["hosts"])
-                    (seen if hosts == sorted(self.read("commands")) else different).append(len(hosts))
-
-        reader = threading.Thread(target=read)
-        reader.start()
-        try:
-            for count in (2, 3, 300, 4, 5):
-                self.take(self.small(count))
-        finally:
-            is_over.set()
-            reader.join(LONG)
-        self.assertEqual(different, [])
-        self.assertEqual(seen, sorted(seen, key=[1, 2, 3, 300, 4, 5].index))
-        self.assertGreater(len(set(seen)), 2)
-
-    def test_files_that_are_replaced_for_too_long(self) -> None:
-        self.site.mkdir()
-        lock = os.open(self.site, os.O_RDONLY)
-        self.addCleanup(os.close, lock)
-        fcntl.flock(lock, fcntl.LOCK_EX)
-        with mock.patch.object(json_files, "PATIENCE", 0.1), self.assertRaises(SiteFault):
-            with lock_for_reading(self.site):
-                pass
-        with self.assertRaises(SiteFault), lock_for_reading(self.folder / "none"):
-            pass

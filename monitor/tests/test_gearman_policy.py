@@ -3,7 +3,7 @@ import json
 import os
 import random
 import time
-from typing import Any, Callable, Dict, List, Optional
+from typing import Any, Callable, List, Optional
 
 from nagsched_monitor.model.jobs import Event, Job, JobFinished
 from nagsched_monitor.run.gearman_signing import JOB, RESULT, SKEW, JobPolicy, Refusal, Signer

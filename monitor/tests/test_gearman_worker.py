@@ -1,6 +1,4 @@
 """A worker of a Gearman server: its requests to the server, the plugins that it runs, and its answers. No server is needed."""
-import contextlib
-import io
 import os
 import signal
 import time
@@ -15,7 +13,7 @@ from nagsched_monitor.run.gearman import ECHO_EVERY, RETRY, Code
 from nagsched_monitor.run.gearman_queue import read_result
 from nagsched_monitor.run.gearman_signing import RESULT
 from nagsched_monitor.run.gearman_worker import GRACE
-from nagsched_monitor.run.pool import RunnerPool
+from nagsched_monitor.run.runners import RunnerPool
 
 from .one_worker import WorkerTest
 
@@ -198,7 +196,6 @@ class Starting(unittest.TestCase):
         for words, why in (("--unsigned --only /no/such/file", "can't be started: Command"), ("--slots 0 --unsigned", "--slots"), ("", "--key"),
                            ("--unsigned --key x", "one of the two"),
                            ("--key /no/such/key", "/no/such/key")):
-            told = io.StringIO()
-            with contextlib.redirect_stderr(told):
-                self.assertEqual(gearman_worker.main([*words.split(), "127.0.0.1:4730", "dmz"]), 1)
-            self.assertIn(why, told.getvalue())
+            with self.assertRaises(SystemExit) as ended:
+                gearman_worker.main([*words.split(), "127.0.0.1:4730", "dmz"])
+            self.assertIn(why, str(ended.exception))

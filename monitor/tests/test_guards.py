@@ -9,21 +9,18 @@ from unittest import mock
 
 from nagsched_monitor.core.requests import Request
 from nagsched_monitor.faults import ConversationEnded, SiteFault
-from nagsched_monitor.model.clock import SystemClock
+from nagsched_monitor.model.clock import Clock
 from nagsched_monitor.model.jobs import Job, JobLost
 from nagsched_monitor.program import main as main_module
 from nagsched_monitor.program import monitor as monitor_module
 from nagsched_monitor.program.monitor import DAY, Monitor
-from nagsched_monitor.run.pool import LONGEST_LINE, RunnerPool
-from nagsched_monitor.scheduler import live_process
-from nagsched_monitor.scheduler.live_process import Conversation
-from nagsched_monitor.scheduler.schedulers import TRIES
-from nagsched_monitor.site.site import Options, read_site
+from nagsched_monitor.run.runners import LONGEST_LINE, RunnerPool
+from nagsched_monitor.scheduler import schedulers
+from nagsched_monitor.scheduler.schedulers import TRIES, Conversation
+from nagsched_monitor.site.site import Options
 from nagsched_monitor.system.poller import FilePoller
 
-from .parted import PartedSiteTest, mirror, setup
-from .parted import host as parted_host
-from .simulated import BEGIN, PROGRAM, SimulatedMonitor, SiteTest, fine, host, service
+from .simulated import BEGIN, SimulatedMonitor, SiteTest, fine, host, service
 from .waiting import becomes_true
 
 
@@ -98,7 +95,7 @@ class OverTime(SiteTest):
         script = self.folder / "program"
         script.write_text("#!/bin/sh\nread setup; read one; read two; printf 'idle\\nidl'; exec sleep 60\n")
         script.chmod(0o755)
-        with mock.patch.multiple(live_process, SILENCE=0.3, OPENING=5.0):
+        with mock.patch.multiple(schedulers, SILENCE=0.3, OPENING=5.0):
             conversation = Conversation(str(script), b"{}", 0)
             self.addCleanup(conversation.close, True)
             begun = time.monotonic()
@@ -258,7 +255,7 @@ class Clocks(SiteTest):
     def test_moments_after_a_restart(self) -> None:
         """They continue from the last stored one if the clock is earlier now."""
         later = time.time_ns() // 1_000_000 + 7_200_000
-        self.assertGreaterEqual(SystemClock(later).moment(), later)
+        self.assertGreaterEqual(Clock(later).moment(), later)
 
     def test_history_and_a_wrong_clock(self) -> None:
         """A clock that jumps drops nothing; the hours after that do."""
@@ -283,22 +280,3 @@ class Clocks(SiteTest):
         monitor.work(600)
         starts = monitor.starts()["web"]
         self.assertTrue(180_000 <= starts[0] <= 200_000 and 340_000 <= starts[-1] <= 360_000, starts)
-
-
-class Mirrored(PartedSiteTest):
-    def test_a_mirror_that_isnt_taken(self) -> None:
-        """A result that is to be reported waits until a new mirror of its object runs."""
-        gateway = parted_host("gateway")
-        self.write_parts([setup([gateway], []), setup([parted_host("far")], [])], {})
-        monitor = self.monitor(fine)
-        monitor.run(30)
-        monitor.ask(do="result", name="gateway", code=2, output="down")
-        self.write_parts([setup([gateway], []), setup([mirror(gateway), parted_host("far", "gateway")], [])], {"part-2": {"gateway": "part-1"}})
-        monitor.engine.reload(read_site(self.folder, PROGRAM))
-        self.assertFalse(monitor.scheduling.is_reportable((0, "gateway")))
-        monitor.engine.requests.begin_turn()
-        monitor.engine.turn()
-        self.assertEqual(monitor.engine.passive.count, 1)
-        monitor.run(5)
-        self.assertEqual(([change.words for _, change in monitor.changes], monitor.engine.passive.count), (["down"], 0))
-        self.assertTrue(monitor.scheduling.is_reportable((0, "gateway")))

@@ -5,8 +5,8 @@ import time
 from typing import Dict, List, Tuple
 from unittest import mock
 
-from nagsched_monitor.model.text import plain_text
-from nagsched_monitor.outputs import metrics, textfile
+from nagsched_monitor.model.text import performance_values, plain_text
+from nagsched_monitor.outputs import metrics
 from nagsched_monitor.outputs.metrics import family, label_value
 from nagsched_monitor.store.counters import BOUNDS, RESULTS
 
@@ -85,6 +85,7 @@ class Metrics(PageTest):
         self.assertEqual({name: kind for name, kind in families.kinds.items() if kind != "gauge"}, {
             "nagsched_checks_total": "counter", "nagsched_calls_total": "counter", "nagsched_saves_total": "counter",
             "nagsched_check_latency_seconds": "histogram", "nagsched_faults_total": "counter", "nagsched_changes_aside_total": "counter",
+            "nagsched_spool_missed_total": "counter", "nagsched_commands_refused_total": "counter",
         })
         self.assertEqual((families.of("nagsched_due"), families.of("nagsched_out")), (1, 1))
         self.assertEqual([families.of("nagsched_checks_total", result=result) for result in RESULTS], [7, 0, 0, 0, 0, 0, 0, 1, 0, 0])
@@ -136,6 +137,23 @@ class Metrics(PageTest):
             ("web", "odd", "it's", "c"): 1000, ("web", "odd", "x", ""): 5})
         self.assertEqual({tuple(label for label, _ in labels) for labels in found}, {("host", "service", "label", "unit")})
 
+    def test_the_forms_of_performance_data(self) -> None:
+        """Each form of the plugin guidelines: all units, quoted labels, thresholds as ranges, empty ones, no number; and outputs of usual plugins."""
+        rows: List[Tuple[str, Dict[Tuple[str, str], float]]] = [
+            ("a=1 b=2s c=3us d=4ms e=5% f=6B g=7KB h=8MB i=9TB j=10GB k=11c l=12GiB m=13\u00b0C", {
+                ("a", ""): 1, ("b", "s"): 2, ("c", "us"): 3, ("d", "ms"): 4, ("e", "%"): 5, ("f", "B"): 6, ("g", "KB"): 7, ("h", "MB"): 8, ("i", "TB"): 9,
+                ("j", "GB"): 10, ("k", "c"): 11, ("l", "GiB"): 12, ("m", "\u00b0C"): 13}),
+            ("a=1;10;20;0;100 b=1;10:;~:20 c=1;@10:20;5:6;; d=1;;;0 e=1; f=-1;-5:-1;;-9;9", {(name, ""): -1 if name == "f" else 1 for name in "abcdef"}),
+            ("'a b'=1 'it''s'=2ms;1 'C:\\ %'=3% '/=x'=4 ''=5 'open=6", {("a b", ""): 1, ("it's", "ms"): 2, ("C:\\ %", "%"): 3, ("/=x", ""): 4}),
+            ("a=U b=U;1;2 c= d e=. f=1.2.3 g=1..2 h=1-2 i=nan j=inf k=.5 l=5. m=0,5s n=1e-3s", {
+                ("k", ""): 0.5, ("l", ""): 5, ("m", "s"): 0.5, ("n", "s"): 0.001}),
+            ("time=0.002722s;0.000000;0.000000;0.000000 size=1212B;;;0", {("time", "s"): 0.002722, ("size", "B"): 1212}),
+            ("/=2643MB;5948;5958;0;5968 /boot=68MB;88;93;0;98", {("/", "MB"): 2643, ("/boot", "MB"): 68}),
+            ("rta=0.080000ms;3000.000000;5000.000000;0.000000 pl=0%;80;100;0", {("rta", "ms"): 0.08, ("pl", "%"): 0}),
+            ("load1=0.000;5.000;10.000;0; users=4;20;50;0", {("load1", ""): 0, ("users", ""): 4})]
+        for data, values in rows:
+            self.assertEqual(performance_values(f"fine | {data}"), values, data)
+
     def test_performance_data_that_is_cut(self) -> None:
         """The last value of an output that was cut isn't whole."""
         words = plain_text("a | " + " ".join(f"n{number}={number}12345678" for number in range(1_000)))
@@ -154,7 +172,7 @@ class Metrics(PageTest):
         self.assertEqual((families.of("nagsched_up"), families.of("nagsched_last_turn_timestamp_seconds")), (0, now - 100))
         self.assertEqual([families.of(f"nagsched_{name}") for name in ("faults_total", "overdue", "overdue_seconds")], [2, 4, 1.5])
         self.assertFalse([name for name, _ in families.samples if "stuck" in name or "waiting" in name])
-        runners = {"local": {"running": 3, "wanted": 4, "stuck": 1, "waiting": 0}}
+        runners = {"local": {"running": 3, "wanted": 4, "stuck": 1, "waiting": 0, "left": 2}}
         signs = {"turn": now - 7, "is_stuck": True, "passive_waiting": 5, "changes_waiting": 6, "oldest_change": 7.5, "runners": runners,
                  "overdue": 5, "overdue_by": 2.5}
         with mock.patch.object(metrics, "send_request", return_value=json.dumps(signs).encode()):
@@ -162,15 +180,15 @@ class Metrics(PageTest):
         self.assertEqual([families.of(f"nagsched_{name}") for name in ("up", "stuck", "passive_waiting", "changes_waiting", "oldest_change_seconds", "overdue",
                                                                    "overdue_seconds")], [1, 1, 5, 6, 7.5, 5, 2.5])
         self.assertEqual(families.of("nagsched_last_turn_timestamp_seconds"), now - 7)
-        self.assertEqual([families.of(f"nagsched_{name}", runner="local") for name in ("runners", "runners_wanted", "runners_stuck", "runner_waiting")],
-                         [3, 4, 1, 0])
+        self.assertEqual([families.of(f"nagsched_{name}", runner="local") for name in ("runners", "runners_wanted", "runners_stuck", "runner_waiting",
+                                                                                       "left_processes")], [3, 4, 1, 0, 2])
 
     def test_nothing_yet(self) -> None:
         """A site whose monitor has counted nothing has all families; if no state was saved, there are no seconds since."""
         fill_database(self.folder, [])
         self.serve()
         families = self.families()
-        self.assertEqual(len(families.kinds), 26)
+        self.assertEqual(len(families.kinds), 31)
         self.assertEqual([name for name, _ in families.samples if "since_save" in name], [])
 
 
@@ -194,7 +212,7 @@ class Textfile(SiteTest):
             (self.folder / "monitor.db").write_text("this is no database")
             return len(seen) == 3
 
-        with mock.patch.object(textfile, "ParentMonitor") as made:
+        with mock.patch.object(metrics, "ParentMonitor") as made:
             made().is_ended, made().arguments = is_ended, [str(self.folder), str(file)]
-            self.assertEqual(textfile.main(), 0)
+            self.assertEqual(metrics.main(), 0)
             self.assertEqual((seen, file.exists(), made().log.call_count), ([[]] * 3, False, 1))

@@ -6,9 +6,10 @@ from unittest import mock
 
 from nagsched_monitor.faults import NotStored
 from nagsched_monitor.model.protocol import Reschedule
+from nagsched_monitor.site.site import read_site
 
 from .parted import PartedSiteTest, depends, host, mirror, service, setup
-from .simulated import BEGIN, Plugin, SimulatedMonitor, fine
+from .simulated import BEGIN, PROGRAM, Plugin, SimulatedMonitor, fine
 
 DAY = 86_400
 INTERVAL, RETRY = 3_600, 900
@@ -170,3 +171,22 @@ class Handed(PartedSiteTest):
         monitor.add_result("gateway", 2, "by hand")
         monitor.run(300)
         self.assert_mirrors_answered_alike()
+
+
+class Mirrored(PartedSiteTest):
+    def test_a_mirror_that_isnt_taken(self) -> None:
+        """A result that is to be reported waits until a new mirror of its object runs."""
+        gateway = host("gateway")
+        self.write_parts([setup([gateway], []), setup([host("far")], [])], {})
+        monitor = self.monitor(fine)
+        monitor.run(30)
+        monitor.ask(do="result", name="gateway", code=2, output="down")
+        self.write_parts([setup([gateway], []), setup([mirror(gateway), host("far", "gateway")], [])], {"part-2": {"gateway": "part-1"}})
+        monitor.engine.reload(read_site(self.folder, PROGRAM))
+        self.assertFalse(monitor.scheduling.is_reportable((0, "gateway")))
+        monitor.engine.requests.begin_turn()
+        monitor.engine.turn()
+        self.assertEqual(monitor.engine.passive.count, 1)
+        monitor.run(5)
+        self.assertEqual(([change.words for _, change in monitor.changes], monitor.engine.passive.count), (["down"], 0))
+        self.assertTrue(monitor.scheduling.is_reportable((0, "gateway")))

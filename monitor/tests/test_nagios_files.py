@@ -8,14 +8,18 @@ from typing import Callable, Counter, Dict, List, Mapping, Tuple
 from unittest import mock
 
 from nagsched_monitor.inputs.nagios_pipe import NAME
-from nagsched_monitor.outputs.nagios_blocks import HOST_STATES, SERVICE_STATES, Program, Settings, status_file
-from nagsched_monitor.outputs.nagios_files import NagiosFiles, services_by_host
-from nagsched_monitor.store.rows import StoredStanding
+from nagsched_monitor.model.remarks import Remark
+from nagsched_monitor.outputs.nagios_files import NagiosFiles, status_file
+from nagsched_monitor.outputs.object_columns import HOST_STATES, SERVICE_STATES
+from nagsched_monitor.outputs.object_rows import ObjectRows
+from nagsched_monitor.outputs.status_query import read_site_status
+from nagsched_monitor.store.rows import StoredChange, StoredStanding
 
 from .running import ProcessTest
+from .shown_site import store_site
 from .simulated import BEGIN, SiteTest
 from .waiting import becomes_true
-from .work_count import CountedName, check_growth, work_of
+from .work_count import check_growth, work_of
 
 Block = Dict[str, str]
 WELL = StoredStanding("web", "UP", "HARD", 1, False, 1000.5, 1000.5, 2000.25, 2060.9, True, None, 0.5, 0.25, "fine|rta=0.8ms;1;2")
@@ -77,10 +81,19 @@ def line_of(name: str, block: Block) -> str:
 
 
 class Blocks(SiteTest):
-    def written(self) -> bytes:
-        program = Program(77, 500, True, {"web;http": {"OK": 1500.0}})
-        settings = {"web": Settings(5, 1, 3, "check_ping", "always"), "web;http": Settings(10, 2, 4, is_passive=True)}
-        return status_file(program, settings, [WELL, BAD, NEW], 2050.7).encode()
+    def written(self, *remarks: Remark) -> bytes:
+        host = {"name": "web", "check_interval": 5, "max_check_attempts": 3}
+        http = {"host": "web", "description": "http", "check_interval": 10, "retry_interval": 2, "max_check_attempts": 4}
+        store_site(self.folder, {"hosts": [host], "services": [http]}, [BAD, NEW, WELL], StoredChange(1, 1500.0, "web;http", "CRITICAL", "SOFT", 2, False, ""),
+                   remarks=remarks)
+        self.write("commands.json", {"web": {"line": "/usr/bin/check_ping -H web"}})
+        self.write("periods.json", {"periods": {"always": {}}, "objects": {"web": "always"}})
+        self.write("passive.json", {"web;http": {"only": True}})
+        rows = ObjectRows(self.folder, print, True)
+        self.addCleanup(rows.close)
+        self.assertTrue(rows.read())
+        rows.now, rows.process, rows.started_at = 2050.7, 77, 500
+        return status_file(rows).encode()
 
     def test_members(self) -> None:
         (_, info), (_, program), (_, web), (_, http), (_, new) = blocks = blocks_of(self.written())
@@ -96,7 +109,7 @@ class Blocks(SiteTest):
                        "active_scheduled_service_check_stats": "0,0,0", "passive_service_check_stats": "1,1,1"}),
             (web, {"current_state": "0", "last_hard_state": "0", "state_type": "1", "current_attempt": "1", "max_attempts": "3", "last_state_change": "1000",
                    "plugin_output": "fine", "performance_data": "rta=0.8ms;1;2", "last_check": "2000", "next_check": "2060", "check_execution_time": "0.500",
-                   "check_latency": "0.250", "check_period": "always", "check_command": "check_ping", "check_interval": "5.000000", "last_time_up": "2000",
+                   "check_latency": "0.250", "check_period": "always", "check_command": "check_ping", "check_interval": "5.000", "last_time_up": "2000",
                    "last_time_down": "0", "check_type": "0", "should_be_scheduled": "1", "last_update": "2050"}),
             (http, {"current_state": "2", "last_hard_state": "0", "state_type": "0", "current_attempt": "2", "plugin_output": "no answer",
                     "long_plugin_output": "of\\it", "is_flapping": "1", "active_checks_enabled": "0", "should_be_scheduled": "0", "next_check": "0",
@@ -106,6 +119,29 @@ class Blocks(SiteTest):
         ]
         for block, wanted in rows:
             self.assertEqual({name: block[name] for name in wanted}, wanted)
+
+    def test_remarks(self) -> None:
+        ack = Remark(1, "acknowledgement", "web;http", "ada", "known;\nagain", 1000.5, 1000.5, sticky=True, persistent=True, state="CRITICAL")
+        remarks = [ack, Remark(2, "comment", "web", "bob", "old", 1001.0, 1001.0), Remark(3, "downtime", "web", "bob", "move", 1002.0, 2000.0, 3000.0),
+                   Remark(4, "downtime", "web;http", "bob", "boot", 1003.0, 1003.0, 3000.0, duration=600.0, began_at=1900.0),
+                   Remark(5, "mute", "web;new", "bob", "off", 1004.0, 1004.0)]
+        (_, _), (_, program), (_, web), (_, http), (_, new), *said = blocks_of(self.written(*remarks))
+        shown = ("problem_has_been_acknowledged", "acknowledgement_type", "scheduled_downtime_depth", "notifications_enabled")
+        self.assertEqual([[block[name] for name in shown] for block in (web, http, new)], [["0", "0", "1", "1"], ["1", "2", "1", "1"], ["0", "0", "0", "0"]])
+        of_web, of_http = {"host_name": "web"}, {"host_name": "web", "service_description": "http"}
+        begun = {"triggered_by": "0", "is_in_effect": "1", "start_notification_sent": "0", "comment_id": "0", "author": "bob", "end_time": "3000"}
+        well = {"source": "1", "expires": "0", "expire_time": "0"}
+        self.assertEqual(said, [
+            ("hostcomment", {**of_web, **well, "entry_type": "1", "comment_id": "2", "persistent": "0", "entry_time": "1001", "author": "bob",
+                             "comment_data": "old"}),
+            ("hostdowntime", {**of_web, **begun, "downtime_id": "3", "entry_time": "1002", "start_time": "2000", "flex_downtime_start": "0", "fixed": "1",
+                              "duration": "1000", "comment": "move"}),
+            ("servicecomment", {**of_http, **well, "entry_type": "4", "comment_id": "1", "persistent": "1", "entry_time": "1000", "author": "ada",
+                                "comment_data": "known;\\nagain"}),
+            ("servicedowntime", {**of_http, **begun, "downtime_id": "4", "entry_time": "1003", "start_time": "1003", "flex_downtime_start": "1900",
+                                 "fixed": "0", "duration": "600", "comment": "boot"})])
+        muted = self.written(Remark(6, "mute", "", "bob", "off", 1.0, 1.0))
+        self.assertEqual((program["enable_notifications"], blocks_of(muted)[1][1]["enable_notifications"]), ("1", "0"))
 
 
 class Outage(SiteTest):
@@ -150,7 +186,7 @@ class Outage(SiteTest):
         self.assertEqual(wanted - states, set())
         gate = blocks["gate"]
         self.assertTrue(60 <= int(gate["last_time_down"]) - BEGIN // 1000 <= 180, gate)
-        self.assertEqual((gate["check_interval"], gate["max_attempts"], blocks["h3;load"]["check_type"]), ("20.000000", "2", "1"))
+        self.assertEqual((gate["check_interval"], gate["max_attempts"], blocks["h3;load"]["check_type"]), ("20.000", "2", "1"))
         files._pipe.close()
 
 
@@ -194,17 +230,21 @@ class Process(ProcessTest):
         self.command(f"SCHEDULE_FORCED_SVC_CHECK;h00;ssh;{now}", "ENABLE_HOST_CHECK;h01")
         self.wait(lambda: self.runs("h00;ssh") == 3)
         self.command("PROCESS_SERVICE_CHECK_RESULT;h00;http;2;no answer;at all", "PROCESS_HOST_CHECK_RESULT;h01;1;it is gone")
-        self.command("REMOVE_HOST_ACKNOWLEDGEMENT;h00", "ENABLE_HOST_CHECK;h07", "nonsense")
+        self.command("REMOVE_HOST_ACKNOWLEDGEMENT;h00", "ENABLE_HOST_CHECK;h07", "RESTART_PROGRAM", "nonsense")
         self.wait(lambda: "CRITICAL HARD 1 h00;http: no answer;at all" in self.states())
         self.wait(lambda: "DOWN SOFT 1 h01: it is gone" in self.states())
+        self.command(f"SCHEDULE_HOST_DOWNTIME;h00;{now};{now + 3600};1;0;3600;ada;new disk", "ADD_SVC_COMMENT;h00;ssh;1;ada;slow; since May")
+        self.wait(lambda: self.run_command("status", "h00*").stdout.count(" downtime ") == 3)
+        self.wait(lambda: self.run_command("remarks", "h00;*").stdout.endswith(" ada: slow; since May\n"))
         # A burst, and no result of it is lost: each is another state than the one before.
         self.command(*[f"PROCESS_SERVICE_CHECK_RESULT;h00;http;{number % 3};number {number}" for number in range(300)])
         self.wait(lambda: ": number 299" in self.run_command("status", "h00;http").stdout)
         output = self.stop_monitor(running)
         told = [line.rpartition(" ")[2] for line in output.splitlines() if " h00;http is " in line and ": number " in line]
         self.assertEqual(told[-299:], [str(number) for number in range(1, 300)])
-        self.assertIn("nagios files: REMOVE_HOST_ACKNOWLEDGEMENT isn't obeyed here\n", output)
-        self.assertIn("nagios files: ENABLE_HOST_CHECK: h07: there is no object 'h07'\n", output)
+        for why in ("REMOVE_HOST_ACKNOWLEDGEMENT: h00: there is no such acknowledgement", "ENABLE_HOST_CHECK: h07: there is no object 'h07'"):
+            self.assertIn(f"refused: nagios.cmd: {why}\n", output)
+        self.assertEqual(read_site_status(self.folder).figures["commands_refused"], 4)
         self.assertEqual((self.runs("h00;ssh"), (self.nagios / NAME).exists()), (3, False))
 
     def test_begun_again_and_ended(self) -> None:
@@ -241,12 +281,19 @@ class Size(SiteTest):
         """Counts the calls and lines that write the file of this many objects, 15 services on each host."""
         hosts = [f"h{n:03}" for n in range(count // 16)]
         names = [*hosts, *(f"{host};s{n:02}" for host in hosts for n in range(15))]
-        settings = {name: Settings(5, 1, 3) for name in names}
         words = "PING OK - Packet loss = 0%, RTA = 0.80 ms|rta=0.8ms;3;5"
-        standings = [WELL._replace(name=CountedName(name), state="OK" if ";" in name else "UP", words=words) for name in names]
-        self.assertEqual(len(objects_of(status_file(Program(1, 1, False), settings, standings, 3000.0).encode())), count)
-        self.assertEqual(sum(map(len, services_by_host(standings).values())), count // 16 * 15)
-        return work_of(lambda: (status_file(Program(1, 1, False), settings, standings, 3000.0).encode(), services_by_host(standings)))
+        (self.folder / "monitor.db").unlink(missing_ok=True)
+        store_site(self.folder, {"hosts": [{"name": host, "max_check_attempts": 3} for host in hosts]},
+                   [WELL._replace(name=name, state="OK" if ";" in name else "UP", words=words) for name in names])
+        rows = ObjectRows(self.folder, print)
+        rows.read()
+        self.assertEqual(len(objects_of(status_file(rows).encode())), count)
+        self.assertEqual(sum(map(len, rows.services.values())), count // 16 * 15)
+        rows.close()
+        fresh = ObjectRows(self.folder, print)
+        work = work_of(lambda: (fresh.read(), status_file(fresh).encode()))
+        fresh.close()
+        return work
 
     def test_4096_objects(self) -> None:
-        check_growth(self, self.work, 29)
+        check_growth(self, self.work, 75)

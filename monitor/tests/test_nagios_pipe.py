@@ -5,6 +5,7 @@ from typing import Any, Dict, List, Tuple
 
 from nagsched_monitor.faults import MonitorFault, RequestFault
 from nagsched_monitor.inputs.nagios_pipe import LONGEST_LINE, NAME, Pipe, requests_of
+from nagsched_monitor.site.people_files import Groups
 
 from .simulated import SiteTest
 from .waiting import becomes_true
@@ -41,9 +42,53 @@ class Lines(SiteTest):
                 name, requests = requests_of(f"[1795766400] {text}".encode(), self.SERVICES)
                 self.assertEqual((name, requests), (text.partition(";")[0], wanted))
 
+    def test_commands_about_remarks(self) -> None:
+        """Those of Ansible's module, in its form, and those of Nagios's pages."""
+        said = {"author": "Ansible", "text": "Scheduling downtime; twice"}
+        end = ";Ansible;Scheduling downtime; twice"
+        downtime: Dict[str, Any] = {"do": "downtime", "from": 1000, "until": 2800, **said}
+        mute: Dict[str, Any] = {"do": "mute", "author": "nagios.cmd", "text": "notifications are disabled"}
+        ack: Dict[str, Any] = {"do": "ack", **said, "sticky": False, "persistent": False}
+        hosts, services, shop = ["web", "db"], ["web;http", "web;ssh"], ["web;http", "db;old"]
+        unmute: Dict[str, Any] = {"do": "remove", "kind": "mute"}
+        remove: Dict[str, Any] = {"do": "remove", "kind": "downtime"}
+        several = {"SVC;web;http": ["web;http"], "HOST;web": ["web"], "HOST_SVC;web": services, "HOSTGROUP_HOST;linux": hosts, "HOSTGROUP_SVC;linux": services,
+                   "SERVICEGROUP_HOST;shop": hosts, "SERVICEGROUP_SVC;shop": shop}
+        rows: List[Tuple[str, Dict[str, Any], List[str]]] = [
+            row for of, names in several.items() for kind, _, name in [of.partition(";")] for row in (
+                (f"SCHEDULE_{kind}_DOWNTIME;{name};1000;2800;1;0;1800{end}", downtime, names),
+                (f"SCHEDULE_{kind}_DOWNTIME;{name};1000;2800;0;0;1800{end}", {**downtime, "duration": 1800}, names),
+                (f"DISABLE_{kind}_NOTIFICATIONS;{name}", mute, names), (f"ENABLE_{kind}_NOTIFICATIONS;{name}", unmute, names))]
+        rows += [
+            ("DISABLE_NOTIFICATIONS", mute, [""]), ("ENABLE_NOTIFICATIONS", unmute, [""]),
+            (f"ACKNOWLEDGE_HOST_PROBLEM;web;0;1;0{end}", ack, ["web"]),
+            (f"ACKNOWLEDGE_SVC_PROBLEM;web;http;2;1;1{end}", {**ack, "sticky": True, "persistent": True}, ["web;http"]),
+            ("REMOVE_SVC_ACKNOWLEDGEMENT;web;http", {"do": "remove", "kind": "acknowledgement"}, ["web;http"]),
+            (f"ADD_SVC_COMMENT;web;http;1{end}", {"do": "comment", **said, "persistent": True}, ["web;http"]),
+            ("DEL_ALL_HOST_COMMENTS;web", {"do": "remove", "kind": "comment"}, ["web"]),
+            ("DISABLE_HOSTGROUP_SVC_CHECKS;linux", {"do": "disable"}, services),
+        ]
+        plain: List[Tuple[str, Dict[str, Any]]] = [
+            ("DEL_HOST_COMMENT;7", {"do": "remove", "kind": "comment", "id": 7}), ("DEL_SVC_DOWNTIME;8", {**remove, "id": 8}),
+            ("DEL_DOWNTIME_BY_HOST_NAME;web;;;Scheduling downtime", {**remove, "host": "web", "text": "Scheduling downtime"}),
+            ("DEL_DOWNTIME_BY_HOST_NAME;web;http;1000;", {**remove, "name": "web;http", "from": 1000}), ("DEL_DOWNTIME_BY_HOST_NAME;web", {**remove, "host": "web"}),
+            ("DEL_DOWNTIME_BY_START_TIME_COMMENT;1000;move", {**remove, "from": 1000, "text": "move"}),
+        ]
+        groups = {"web": Groups({"host_groups": ["linux"]}), "db": Groups({"host_groups": ["linux", "db"]}),
+                  "web;http": Groups({"host_groups": ["linux"], "service_groups": ["shop"]}), "db;old": Groups({"service_groups": ["shop"]})}
+        for text, wanted in [*((text, [{**request, "name": name} for name in names]) for text, request, names in rows),
+                             *((text, [request]) for text, request in plain)]:
+            with self.subTest(text):
+                self.assertEqual(requests_of(f"[1795766400] {text}".encode(), self.SERVICES, groups), (text.partition(";")[0], wanted))
+
     def test_others_are_named(self) -> None:
         rows = [
-            (b"[1] ACKNOWLEDGE_HOST_PROBLEM;web;1;1;1;me;soon", "ACKNOWLEDGE_HOST_PROBLEM isn't obeyed here"),
+            (b"[1] DISABLE_FAILURE_PREDICTION", "DISABLE_FAILURE_PREDICTION isn't obeyed here"),
+            (b"[1] ACKNOWLEDGE_HOST_PROBLEM;web;2;1;1;me", "ACKNOWLEDGE_HOST_PROBLEM: it needs 6 arguments, and has 5"),
+            (b"[1] SCHEDULE_HOST_DOWNTIME;web;1;2;1;7;60;me;move", "a downtime that begins with another one can't be made here"),
+            (b"[1] SCHEDULE_HOSTGROUP_HOST_DOWNTIME;none;1;2;1;0;60;me;move", "there is no host group 'none'"),
+            (b"[1] SCHEDULE_SERVICEGROUP_SVC_DOWNTIME;linux;1;2;1;0;60;me;move", "there is no service group 'linux'"),
+            (b"[1] DISABLE_HOST_SVC_NOTIFICATIONS;gone", "there is no host 'gone'"), (b"[1] DEL_SVC_COMMENT;x", "it needs a number, not 'x'"),
             (b"[1] RESTART_PROGRAM", "RESTART_PROGRAM isn't obeyed here"),
             (b"", "a line has to be [TIME] COMMAND"), (b"SCHEDULE_HOST_CHECK;web;1", "a line has to be [TIME] COMMAND"), (b"[x] SCHEDULE_HOST_CHECK;web;1", "a line has to be [TIME] COMMAND"),
             (b"[1] schedule", "a line has to be [TIME] COMMAND"), (b"[1]SCHEDULE_HOST_CHECK;web;1", "a line has to be [TIME] COMMAND"), (b"\xff\x00", "a line has to be [TIME] COMMAND"),

@@ -11,10 +11,8 @@ from unittest import mock
 
 from nagsched_monitor.core import checks
 from nagsched_monitor.core.checks import hosts_to_check
-from nagsched_monitor.model.definitions import ObjectDefinition
-from nagsched_monitor.model.object_state import ObjectState
+from nagsched_monitor.model.objects import ObjectDefinition, ObjectState, RunTable
 from nagsched_monitor.model.protocol import Standing
-from nagsched_monitor.model.run_table import RunTable
 
 from .simulated import SiteTest, host, service
 

@@ -41,16 +41,16 @@ class Notices(SiteTest):
         environment = {"NOTIFY_SOCKET": path, "WATCHDOG_USEC": "2000000", "WATCHDOG_PID": str(os.getpid()), "HOME": "/"}
         service = ServiceManager(environment, lambda: now[0])
         self.assertEqual(environment, {"HOME": "/"})
-        service.notify_ready("3 objects")
+        service.notify("READY=1\nSTATUS=3 objects")
         for now[0] in (0.5, 0.9, 1.1, 1.5, 2.2):
             service.notify_alive()
-        service.notify_stopping()
+        service.notify("STOPPING=1")
         self.assertEqual(self.heard(there), ["READY=1\nSTATUS=3 objects", "WATCHDOG=1", "WATCHDOG=1", "STOPPING=1"])
 
     def test_a_name_that_is_none_of_a_file(self) -> None:
         name = f"nagsched-test-{os.getpid()}"
         there = self.manager(f"\0{name}")
-        ServiceManager({"NOTIFY_SOCKET": f"@{name}"}).notify_stopping()
+        ServiceManager({"NOTIFY_SOCKET": f"@{name}"}).notify("STOPPING=1")
         self.assertEqual(self.heard(there), ["STOPPING=1"])
 
     def test_nobody_hears(self) -> None:
@@ -58,13 +58,13 @@ class Notices(SiteTest):
         environments: List[Dict[str, str]] = [{}, {"NOTIFY_SOCKET": ""}, {"NOTIFY_SOCKET": str(self.folder / "gone")}]
         for environment in environments:
             service = ServiceManager(environment)
-            service.notify_ready("")
+            service.notify("READY=1")
             service.notify_alive()
-            service.notify_stopping()
+            service.notify("STOPPING=1")
         there = self.manager(str(self.folder / "full"))
         service = ServiceManager({"NOTIFY_SOCKET": str(self.folder / "full")})
         for _ in range(5_000):
-            service.notify_stopping()
+            service.notify("STOPPING=1")
         self.heard(there)
         other = ServiceManager({"NOTIFY_SOCKET": str(self.folder / "full"), "WATCHDOG_USEC": "1", "WATCHDOG_PID": "1"})
         other.notify_alive()

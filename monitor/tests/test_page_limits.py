@@ -6,6 +6,7 @@ import sqlite3
 import time
 
 from nagsched_monitor.outputs import page
+from nagsched_monitor.system.thread_server import MOST_CLIENTS
 
 from .shown_site import PageTest, fill_database, standing
 from .waiting import becomes_true
@@ -80,16 +81,16 @@ class Refused(PageTest):
         """Each client past the limit is closed at once. Slow clients are closed after the longest time, and others have room again."""
         fill_database(self.folder, [standing("h")])
         self.serve()
-        self.addCleanup(setattr, page, "LONGEST_REQUEST", page.LONGEST_REQUEST)
         self.addCleanup(setattr, page.Handler, "timeout", page.Handler.timeout)
-        page.LONGEST_REQUEST = page.Handler.timeout = 60
-        clients = [socket.create_connection(("127.0.0.1", self.port), timeout=20) for _ in range(page.MOST_CLIENTS)]
+        page.Handler.timeout = 60
+        clients = [socket.create_connection(("127.0.0.1", self.port), timeout=20) for _ in range(MOST_CLIENTS)]
         for client in clients:
             self.addCleanup(client.close)
             client.sendall(b"GET / HT")
         with self.assertRaises((ConnectionError, OSError)):
             self.request("/")
-        page.LONGEST_REQUEST = 1
+        for request in list(self.server.ends_at):
+            self.server.ends_at[request] = time.monotonic()
 
         def is_let_go() -> bool:
             try:

@@ -3,7 +3,7 @@ import collections
 from typing import List, Tuple
 
 from nagsched_monitor.core.checks import next_in_phase, time_back_in_phase
-from nagsched_monitor.model.object_state import phase_of
+from nagsched_monitor.model.objects import phase_of
 from nagsched_monitor.site.site import read_site
 
 from .simulated import BEGIN, PROGRAM, SimulatedMonitor, SiteTest, fine, host, service

@@ -6,15 +6,13 @@ import pathlib
 import random
 import shutil
 import signal
-import socket
 import sqlite3
 import subprocess
 import sys
 import time
-from typing import Any, Dict, List, Tuple
+from typing import Any, Dict, List
 
 from nagsched_monitor.inputs import client
-from nagsched_monitor.program import monitor
 
 from .running import MONITOR, ProcessTest
 from .simulated import PROGRAM
@@ -26,13 +24,6 @@ KILLS = 10
 class Running(ProcessTest):
     def calls(self, database: sqlite3.Connection) -> List[str]:
         return [line for (line,) in database.execute("SELECT line FROM calls ORDER BY id")]
-
-    def is_listening(self, address: Tuple[str, int]) -> bool:
-        try:
-            socket.create_connection(address, timeout=5).close()
-        except OSError:
-            return False
-        return True
 
     def count_of_calls(self) -> int:
         """The number of calls stored since the last save, while the monitor runs."""
@@ -233,34 +224,6 @@ class Running(ProcessTest):
             self.assertEqual(self.run_command("stop").stdout, "stop: done\n")
             running.wait(timeout=LONG)
 
-    def test_options_of_the_site(self) -> None:
-        """Options in monitor.json work as those of the command line; a command is given a test, and what is hard when it is new."""
-        taken = self.folder / "taken"
-        with socket.create_server(("127.0.0.1", 0)) as free:
-            page = free.getsockname()[:2]
-        options = {"on_change": f"cat >> {taken}", "page": f"127.0.0.1:{page[1]}", "log_passive": False}
-        self.write_site(self.objects(2, check_interval=3600, max_check_attempts=1), [], monitor=options)
-        running = self.start_monitor()
-        self.assertIn("notify-test: done", self.run_command("notify-test").stdout)
-        self.assertTrue(becomes_true(lambda: taken.exists() and "notify-test" in taken.read_text()))
-        self.assertTrue(json.loads(taken.read_text())["test"])
-        self.run_command("result", "h01", "DOWN", "it burns")
-        self.assertTrue(becomes_true(lambda: "h01" in taken.read_text()))
-        self.assertTrue(becomes_true(lambda: self.is_listening(page)))
-        output = self.stop_monitor(running)
-        self.assertNotIn("asked: result", output)
-        again = self.folder / "again"
-        running = self.start_monitor("--on-change", f"cat >> {again}")
-        self.assertTrue(becomes_true(lambda: again.exists() and again.read_text().endswith("\n")))
-        self.stop_monitor(running)
-        self.assertEqual([json.loads(line)["name"] for line in again.read_text().splitlines()], ["h01"])
-        self.write("monitor.json", {"on_change": "if"})
-        self.assertIn("the command for changes: ", self.refusal())
-        self.write("monitor.json", {"on_change": "/nosuch x"})
-        self.assertIn("the command for changes: there is no program /nosuch: put it on the path, or name its whole path\n", self.refusal())
-        self.write("monitor.json", {"page": "nowhere"})
-        self.assertIn("--page has to be ADDRESS:PORT", self.refusal())
-
     def test_a_database_that_is_gone(self) -> None:
         """The monitor is stuck by name, answers that the request may come again, and goes on when the file is back."""
         self.write_site(self.objects(2), [])
@@ -273,7 +236,21 @@ class Running(ProcessTest):
         made = self.signs()["made"]
         (self.folder / "away").rename(self.folder / "monitor.db")
         self.assertTrue(becomes_true(lambda: bool(self.signs()["made"] > made + 2)))
+        for path in self.folder.glob("monitor.db*"):
+            path.unlink()
+        self.assertTrue(becomes_true(lambda: bool(self.signs()["is_stuck"])))
+        self.assertEqual(self.run_command("new-database").stdout, "new-database: done\n")
+        for process in self.runners_of(running.pid):
+            os.kill(process, signal.SIGKILL)
+        made = self.signs()["made"]
+        self.assertTrue(becomes_true(lambda: bool(self.signs()["made"] > made + 2)))
+        for process in self.runners_of(running.pid):  # they have the lock of the new one
+            self.assertIn(str(self.folder / "monitor.db"), [os.readlink(each) for each in pathlib.Path(f"/proc/{process}/fd").iterdir()])
+        self.assertEqual(len(self.states()), 2)
         self.assertIn("moved or deleted", self.stop_monitor(running))
+
+    def runners_of(self, process: int) -> List[int]:
+        return [each for each in self.children_of(process) if pathlib.Path(f"/proc/{each}/comm").read_text() == "nagsched-runner\n"]
 
     def test_a_damaged_database(self) -> None:
         """The start is refused by a message with the command that continues, and continues after it."""
@@ -290,18 +267,6 @@ class Running(ProcessTest):
         self.start_monitor()
         self.assertTrue(becomes_true(lambda: bool(self.signs()["made"] > 2)))
 
-    def refusal(self) -> str:
-        """The words of a monitor that doesn't start."""
-        command = [sys.executable, str(MONITOR), "--program", PROGRAM, str(self.folder)]
-        refused = subprocess.run(command, capture_output=True, text=True, check=False, timeout=2 * LONG)
-        self.assertEqual(refused.returncode, 1)
-        return refused.stderr
-
     def signs(self) -> Dict[str, Any]:
         signs: Dict[str, Any] = json.loads(client.send_request(self.folder, b'{"do":"signs"}'))
         return signs
-
-    def test_no_site(self) -> None:
-        told = subprocess.run([sys.executable, str(MONITOR), str(self.folder), "test"], capture_output=True, text=True, check=False)
-        self.assertEqual(told.returncode, 1)
-        self.assertTrue(told.stderr.startswith("nagsched-monitor: ") and told.stderr.count("\n") == 1, told.stderr)

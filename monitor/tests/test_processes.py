@@ -237,7 +237,7 @@ class Pauses(SiteTest):
             for now[0] in (0.0, 1.0, 59.0):
                 beside.work()
             self.assertEqual((tried.call_count, beside._process), (1, None))
-        self.assertEqual(lines, ["faults can't be begun: [Errno 11] no room; it is tried again"])
+        self.assertEqual(lines, ["faults can't be begun: no room: raise the limit of processes, or end some; it is tried again"])
         now[0] = 60.0
         beside.work()
         self.assertIsNotNone(beside._process)

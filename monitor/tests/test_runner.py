@@ -8,6 +8,8 @@ import time
 import unittest
 from typing import Any, Dict, List, Set
 
+from nagsched_monitor.system.processes import living_processes
+
 from .one_runner import MONITOR, OneRunner, shell
 from .waiting import becomes_true
 
@@ -32,7 +34,9 @@ def living(marks: str) -> Set[int]:
 
 
 def children_of(process: int) -> List[int]:
-    return [int(each) for each in pathlib.Path(f"/proc/{process}/task/{process}/children").read_text().split()]
+    """The children of its first thread, which has the guard, and of the others."""
+    threads = sorted(pathlib.Path(f"/proc/{process}/task").iterdir(), key=lambda thread: thread.name != str(process))
+    return [int(each) for thread in threads for each in (thread / "children").read_text().split()]
 
 
 class Plugins(unittest.TestCase):
@@ -123,6 +127,24 @@ class Plugins(unittest.TestCase):
         self.assertEqual(result["output"], "100\n")
         self.assertEqual(limits.partition("Max open files")[2].split()[:2], ["200", "200"])
 
+    def test_a_runner_that_stood_still(self) -> None:
+        """Plugins that ended meanwhile ended in time. Those that stood still too get the time that they lacked."""
+        with OneRunner() as runner:
+            runner.send(*(shell(number, f"sleep 0.5; echo {number}", 2) for number in range(80)))
+            self.assertTrue(becomes_true(lambda: len(children_of(runner.process.pid)) == 81))
+            runner.process.send_signal(signal.SIGSTOP)
+            time.sleep(4)
+            runner.process.send_signal(signal.SIGCONT)
+            self.assertEqual([(it["job"], it["end"], it["output"]) for it in runner.results(80)], [(number, "exited", f"{number}\n") for number in range(80)])
+            runner.send(shell(1, "sleep 1; echo fine", 2), shell(2, "sleep 100", 2))
+            self.assertTrue(becomes_true(lambda: len(children_of(runner.process.pid)) == 3))
+            stopped = [process for process, _, session in living_processes() if session == runner.process.pid]
+            for number in (signal.SIGSTOP, signal.SIGCONT):
+                for process in stopped:
+                    os.kill(process, number)
+                time.sleep(4 if number == signal.SIGSTOP else 0)
+            self.assertEqual([(it["job"], it["end"], it["output"]) for it in runner.results(2)], [(1, "exited", "fine\n"), (2, "limit", "")])
+
     def test_many_at_once(self) -> None:
         with OneRunner() as runner:
             runner.send(*(shell(number, f"sleep 0.2; echo {number}; exit {number % 4}") for number in range(300)))
@@ -211,7 +233,7 @@ class Troubles(unittest.TestCase):
     def setUpClass(cls) -> None:
         cls.folder = tempfile.TemporaryDirectory()
         cls.addClassCleanup(cls.folder.cleanup)
-        subprocess.run(["cc", "-shared", "-fPIC", "-o", f"{cls.folder.name}/trouble.so", MONITOR / "tests/trouble.c"], check=True)
+        subprocess.run(["cc", "-O2", "-shared", "-fPIC", "-o", f"{cls.folder.name}/trouble.so", MONITOR / "tests/trouble.c"], check=True)
         subprocess.run([MONITOR / "build_runner.sh", f"{cls.folder.name}/nagsched-runner"], env={**os.environ, "CFLAGS": "-DMOST_PLUGINS=40"}, check=True)
 
     def runner(self, trouble: str) -> OneRunner:

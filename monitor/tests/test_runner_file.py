@@ -8,11 +8,12 @@ from typing import Any, Dict, List, Tuple
 from nagsched_monitor.faults import SiteFault
 from nagsched_monitor.model.jobs import Job, JobFinished, JobLost
 from nagsched_monitor.run.runners import RunnerPools
-from nagsched_monitor.site.groups_file import Groups
+from nagsched_monitor.site.people_files import Groups
 from nagsched_monitor.site.runner_file import Remote, read_runners
 from nagsched_monitor.site.site import read_site
 from nagsched_monitor.system.poller import FilePoller
 
+from .one_runner import processes_of
 from .simulated import PROGRAM, SiteTest
 
 NAMES = ["gate", "dmz-1", "dmz-1;http", "dmz-2", "dmz-2;http", "dmz-2;local", "paris", "paris;disk"]
@@ -109,7 +110,7 @@ class Handing(unittest.TestCase):
         return events
 
     def process_ids(self) -> List[int]:
-        return [process.pid for process in self.runners.processes()]
+        return [process.pid for process in processes_of(self.runners)]
 
     def start(self, run: int, word: str, runner: str = "dmz") -> None:
         self.runners.start(Job(f"{runner}-1", run, [word], 10, runner or None))
@@ -131,7 +132,7 @@ class Handing(unittest.TestCase):
         self.start(9, "there", "lan")
         self.start(10, "true", "")
         self.assertEqual(sorted(event.job.run for event in self.events(2)), [9, 10])
-        self.assertEqual(self.runners.process_counts()["dmz"], {"running": 1, "wanted": 1, "stuck": 0, "waiting": 2})
+        self.assertEqual(self.runners.process_counts()["dmz"], {"running": 1, "wanted": 1, "stuck": 0, "waiting": 2, "left": 0})
         self.passed = 5
         self.assertEqual([(event.job.run, event.why) for event in self.events(2)], [(2, "the runner dmz didn't take it"), (3, "the runner dmz didn't take it")])
         self.assertEqual(self.lines, ["dmz-1: its check is abandoned: the runner dmz didn't take it"])

@@ -114,9 +114,9 @@ class Lines(unittest.TestCase):
             late = pathlib.Path(folder, "late")
             os.set_blocking(runner._jobs.fileno(), False)
             lines = b"".join(json.dumps(shell(number, "head -c 4096 /dev/zero")).encode() + b"\n" for number in range(400))
-            lines = json.dumps(shell(400, f"sleep 4; touch {late}; sleep 600", 2)).encode() + b"\n" + lines
+            lines = json.dumps(shell(400, f"sleep 12; touch {late}; sleep 600", 2)).encode() + b"\n" + lines
             sent = runner._jobs.write(lines) or 0
-            time.sleep(5)
+            time.sleep(14)  # a runner without a processor for a while gives its plugins that time
             os.set_blocking(runner._jobs.fileno(), True)
             self.assertFalse(late.exists())
             runner.send(lines[sent:])

@@ -14,6 +14,7 @@ from nagsched_monitor.model.jobs import Job, JobFinished, JobLost, StuckJobEnded
 from nagsched_monitor.run.runners import RunnerPools
 from nagsched_monitor.system.poller import FilePoller
 
+from .one_runner import processes_of
 from .waiting import LONG, becomes_true
 
 
@@ -39,7 +40,7 @@ class ManyRunners(unittest.TestCase):
 
     def process_ids(self) -> List[int]:
         self.runners.flush()
-        return [process.pid for process in self.runners.processes()]
+        return [process.pid for process in processes_of(self.runners)]
 
     def test_jobs_come_back(self) -> None:
         for run in range(20):
@@ -59,6 +60,18 @@ class ManyRunners(unittest.TestCase):
         self.assertIn("2 checks with it", self.lines[0])
         self.runners.start(Job("db", 9, ["true"], 10))
         self.assertEqual([event.job.name for event in self.wait(1)], ["db"])
+
+    def test_processes_that_plugins_leave(self) -> None:
+        """They run on, and are counted when their plugin has ended. They end with their runner, if that is killed."""
+        self.runners.start(Job("web", 1, ["/bin/sh", "-c", "sleep 600 & sleep 600 & exec 1>&- 2>&-; exit 2"], 100))
+        self.runners.start(Job("web", 2, ["/bin/sh", "-c", "sleep 600; true"], 100))
+        self.assertEqual([event.job.run for event in self.wait(1)], [1])
+        self.assertTrue(becomes_true(lambda: self.runners.process_counts()["local"]["left"] == 2))
+        self.passed = 10
+        for process in self.process_ids():
+            os.kill(process, signal.SIGKILL)
+        self.assertEqual([event.job.run for event in self.wait(1)], [2])
+        self.assertTrue(becomes_true(lambda: self.runners.process_counts()["local"]["left"] == 0))
 
     def test_one_that_stands_still(self) -> None:
         """It is killed with the job that is late; its other jobs are lost, and others run its next jobs."""
@@ -105,7 +118,8 @@ class ManyRunners(unittest.TestCase):
             job = Job("web", 1, ["true"], 10)
             self.runners.start(job)
             self.assertEqual((self.wait(0), id(job) in self.runners.job_ids()), ([], True))
-        self.assertEqual([line for line in self.lines if "no room" in line], ["a runner can't be started: [Errno 11] no room; it is tried again"])
+        self.assertEqual([line for line in self.lines if "no room" in line],
+                         ["a runner can't be started: no room: raise the limit of processes, or end some; it is tried again"])
         self.passed = 20
         self.assertEqual([type(event) for event in self.wait(1)], [JobFinished])
         self.assertEqual(len(self.process_ids()), 2)
@@ -121,7 +135,7 @@ class Pauses(unittest.TestCase):
         self.addCleanup(made.close)
         for _ in range(600):
             now[0] += 0.1
-            for process in made.processes():
+            for process in processes_of(made):
                 process.wait()
             poller.wait(0)
             made.flush()
@@ -133,9 +147,9 @@ class Pauses(unittest.TestCase):
         poller = FilePoller()
         made = RunnerPools(2, lines.append, poller, lambda: 5.0)
         self.addCleanup(made.close)
-        for process in made.processes():
+        for process in processes_of(made):
             process.kill()
-        self.assertTrue(becomes_true(lambda: poller.wait(100) and not made.processes()))
+        self.assertTrue(becomes_true(lambda: poller.wait(100) and not processes_of(made)))
         self.assertEqual(lines, ["a runner ended with status -9, and 0 checks with it; another is started in 1 seconds"] * 2)
 
 

@@ -8,7 +8,7 @@ from unittest import mock
 
 from nagsched_monitor.faults import SiteFault
 from nagsched_monitor.program.main import main
-from nagsched_monitor.model.definitions import Command
+from nagsched_monitor.model.objects import Command
 from nagsched_monitor.site import command_lines
 from nagsched_monitor.site.site import read_site
 
@@ -27,6 +27,24 @@ class SiteFiles(SiteTest):
             self.assertIn(word, str(caught.exception))
         self.assertNotIn("\n", str(caught.exception))
 
+    def test_what_people_see(self) -> None:
+        self.write_site([HOST], [], directory={"host_groups": {"linux": {"alias": "Linux"}}, "contact_groups": {"team": {"members": ["ada"]}},
+                                               "contacts": {"ada": {}}},
+                        inventory={"web": {"alias": "Web", "custom": {"RACK": "7"}}})
+        read_site(self.folder, PROGRAM)
+        for file, document, *words in (
+            ("directory", {"hosts": {}}, "a member 'hosts' isn't known here"),
+            ("directory", {"contacts": {"ada": []}}, "contacts: ada: it has to be an object"),
+            ("directory", {"contacts": {"ada": {"email": 7}}}, "contacts: ada: email has to be a text, not 7"),
+            ("directory", {"contact_groups": {"team": {"members": "ada"}}}, "contact_groups: team: members has to be a list of names"),
+            ("inventory", {"web": {"custom": {"RACK": 7}}}, "web: custom: RACK has to be a text, not 7"),
+            ("inventory", {"web": {"colour": "red"}}, "a member 'colour' isn't known"),
+        ):
+            self.write_site([HOST], [])
+            self.write(f"{file}.json", document)
+            self.refused(f"{file}.json: ", *words)
+            (self.folder / f"{file}.json").unlink()
+
     def test_a_good_one(self) -> None:
         self.write_site([HOST, {"name": "db", "parents": ["web"], "max_check_attempts": 1}], [TRAP], passive={"web;trap": {"only": True, "freshness": 90}})
         site = read_site(self.folder, PROGRAM)
@@ -38,7 +56,8 @@ class SiteFiles(SiteTest):
     def test_no_retry(self) -> None:
         """Objects that aren't checked again after a soft problem are named when the site is tested."""
         hosts = [{"name": f"h{number}", "max_check_attempts": 3, "retry_interval": 0} for number in range(6)]
-        others = [{"name": "once", "max_check_attempts": 1, "retry_interval": 0}, {"name": "off", "max_check_attempts": 2, "retry_interval": 0, "enabled": False}]
+        others = [{"name": "once", "max_check_attempts": 1, "retry_interval": 0},
+                  {"name": "off", "max_check_attempts": 2, "retry_interval": 0, "enabled": False}]
         self.write_site([HOST, *hosts, *others], [])
         wanted = 'warning: 6 objects aren\'t checked again after a soft problem, since their "retry_interval" is 0: write 1 or more: h0, h1, h2, h3, h4 and 1 more'
         self.assertEqual(read_site(self.folder, PROGRAM).warnings, [wanted])
@@ -160,7 +179,8 @@ class SiteFiles(SiteTest):
     def test_the_command_for_changes(self) -> None:
         """Its first program has to exist, and the shell has to be able to read the line. What only the shell knows isn't tested."""
         (self.folder / "text").touch()
-        for line in ("cat >> x", "/bin/cat", "exec cat", "A=1 B= cat", "A=1", "cd /; ./x", "$X y", "~/x", "if true; then nosuch; fi", "(nosuch)", "! nosuch", "'my x' y", ""):
+        for line in ("cat >> x", "/bin/cat", "exec cat", "A=1 B= cat", "A=1", "cd /; ./x", "$X y", "~/x", "if true; then nosuch; fi", "(nosuch)", "! nosuch",
+                     "'my x' y", ""):
             command_lines.test_change_command(line)
         for line, name in (("/nosuch x", "/nosuch"), (" nosuch|cat", "nosuch"), ("A=1 nosuch>x", "nosuch"), (f"{self.folder}/text", f"{self.folder}/text")):
             wanted = f"^the command for changes: there is no program {name}: put it on the path, or name its whole path$"

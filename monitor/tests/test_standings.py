@@ -8,7 +8,7 @@ from nagsched_monitor.faults import ConversationEnded
 from nagsched_monitor.site.site import read_site
 from nagsched_monitor.store.rows import StoredStanding
 
-from .simulated import BEGIN, PROGRAM, SimulatedMonitor, SiteTest, fine
+from .simulated import BEGIN, PROGRAM, SimulatedClock, SimulatedMonitor, SiteTest, fine
 
 HOSTS = [{"name": name, "check_interval": 60, "retry_interval": 10, "max_check_attempts": 3} for name in ("db", "web")]
 SERVICES = [{"host": "web", "description": "http", "check_interval": 60, "max_check_attempts": 1}]
@@ -49,6 +49,30 @@ class Table(SiteTest):
             self.assertEqual((bool(row.is_on), row.words, row.out_since is None), (obj.on, obj.output, obj.run is None))
             self.assertEqual(row.next_check, None if obj.next is None else obj.next / 1000)
         return kept
+
+    def test_rows_are_in_the_order_of_checks(self) -> None:
+        """So those that are written together are next to each other. A row keeps its number over restarts and in other sites; a new object gets the next one."""
+        def numbers() -> Dict[str, int]:
+            with sqlite3.connect(self.folder / "monitor.db") as database:
+                return dict(database.execute("SELECT name, id FROM standings ORDER BY id").fetchall())
+
+        names = [f"h{number:02}" for number in range(40)]
+        spread = {"max_host_check_spread": 1, "interval_length": 1, "host_inter_check_delay_method": "s"}
+        self.write_site([{"name": name, "check_interval": 60, "max_check_attempts": 1} for name in reversed(names)], [], spread)
+        monitor = self.monitor(fine)
+        monitor.run(70)
+        before = numbers()
+        self.assertEqual(list(before), sorted(names, key=lambda name: monitor.starts()[name][0]))
+        monitor.close()
+        for site in (names[5:] + ["new"], names[10:] + ["new", "a", "b"], [*names, "b"]):
+            self.write_site([{"name": name, "check_interval": 60, "max_check_attempts": 1} for name in sorted(site)], [], spread)
+            monitor = self.monitor(fine, SimulatedClock(monitor.clock.now + 1_000))
+            monitor.run(130)
+            now = numbers()
+            self.assertEqual(set(now), set(site))
+            self.assertEqual({name: now[name] for name in now if name in before}, {name: before[name] for name in now if name in before})
+            before = now
+            monitor.close()
 
     def test_a_reload_while_no_scheduler_can_be_started(self) -> None:
         """The table keeps the states of objects until they are known again, and gets those of new objects then, before their next checks."""

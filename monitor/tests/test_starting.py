@@ -1,20 +1,24 @@
-"""The start of a monitor that isn't possible, and the reading of a site by a process of its own."""
+"""The start of a monitor: with options of its site, where it isn't possible, and the reading of a site by a process of its own."""
 import io
+import json
 import os
 import pickle
+import socket
 import sqlite3
 import subprocess
+import sys
 import time
 import warnings
-from typing import Any, List, cast
+from typing import Any, List, Tuple, cast
 from unittest import mock
 
 from nagsched_monitor.faults import ConversationEnded, MonitorFault, NotStored
 from nagsched_monitor.program import main, monitor, site_reader
-from nagsched_monitor.scheduler.live_process import Conversation
+from nagsched_monitor.scheduler.schedulers import Conversation
 from nagsched_monitor.site.site import Site
 from nagsched_monitor.store.store import Store
 
+from .running import MONITOR, ProcessTest
 from .simulated import PROGRAM, SiteTest
 from .waiting import LONG, becomes_true
 
@@ -104,9 +108,51 @@ class Starting(SiteTest):
             self.assertIn("No space left on device", self.refused())
 
     def test_no_room_in_a_database(self) -> None:
-        with mock.patch.object(Store, "_migrate", side_effect=sqlite3.OperationalError("database or disk is full")):
+        with mock.patch("nagsched_monitor.store.database_file.migrate", side_effect=sqlite3.OperationalError("database or disk is full")):
             self.assertIn("database or disk is full", self.refused())
 
     def test_no_scheduler(self) -> None:
         with mock.patch.object(Conversation, "__init__", side_effect=ConversationEnded("no room for a process")):
             self.assertIn(f"no room for a process; it was tried {monitor.START_TRIES} times", self.refused())
+
+
+class Options(ProcessTest):
+    def is_listening(self, address: Tuple[str, int]) -> bool:
+        try:
+            socket.create_connection(address, timeout=5).close()
+        except OSError:
+            return False
+        return True
+
+    def test_options_of_the_site(self) -> None:
+        """Options in monitor.json work as those of the command line; a command is given a test, and what is hard when it is new."""
+        taken = self.folder / "taken"
+        with socket.create_server(("127.0.0.1", 0)) as free:
+            page = free.getsockname()[:2]
+        options = {"on_change": f"cat >> {taken}", "page": f"127.0.0.1:{page[1]}", "log_passive": False}
+        self.write_site(self.objects(2, check_interval=3600, max_check_attempts=1), [], monitor=options)
+        running = self.start_monitor()
+        self.assertIn("notify-test: done", self.run_command("notify-test").stdout)
+        self.assertTrue(becomes_true(lambda: taken.exists() and "notify-test" in taken.read_text()))
+        self.assertTrue(json.loads(taken.read_text())["test"])
+        self.run_command("result", "h01", "DOWN", "it burns")
+        self.assertTrue(becomes_true(lambda: "h01" in taken.read_text()))
+        self.assertTrue(becomes_true(lambda: self.is_listening(page)))
+        output = self.stop_monitor(running)
+        self.assertNotIn("asked: result", output)
+        again = self.folder / "again"
+        running = self.start_monitor("--on-change", f"cat >> {again}")
+        self.assertTrue(becomes_true(lambda: again.exists() and again.read_text().endswith("\n")))
+        self.stop_monitor(running)
+        self.assertEqual([json.loads(line)["name"] for line in again.read_text().splitlines()], ["h01"])
+        self.write("monitor.json", {"on_change": "if"})
+        self.assertIn("the command for changes: ", self.refusal())
+        self.write("monitor.json", {"on_change": "/nosuch x"})
+        self.assertIn("the command for changes: there is no program /nosuch: put it on the path, or name its whole path\n", self.refusal())
+        self.write("monitor.json", {"page": "nowhere"})
+        self.assertIn("--page has to be ADDRESS:PORT", self.refusal())
+
+    def test_no_site(self) -> None:
+        told = subprocess.run([sys.executable, str(MONITOR), str(self.folder), "test"], capture_output=True, text=True, check=False)
+        self.assertEqual(told.returncode, 1)
+        self.assertTrue(told.stderr.startswith("nagsched-monitor: ") and told.stderr.count("\n") == 1, told.stderr)

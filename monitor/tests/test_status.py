@@ -10,12 +10,11 @@ import time
 from typing import Tuple
 from unittest import mock
 
+from nagsched_monitor import faults
 from nagsched_monitor.faults import MonitorFault
 from nagsched_monitor.inputs import client
-from nagsched_monitor.outputs.status_lines import clock_time
-from nagsched_monitor.outputs.status_query import StatusUnavailable, read_site_status
-from nagsched_monitor.program import build_record, main
-from nagsched_monitor.system import users
+from nagsched_monitor.outputs.status_query import StatusUnavailable, clock_time, read_site_status
+from nagsched_monitor.program import main, monitor
 
 from .running import MONITOR
 from .shown_site import fill_database, standing
@@ -42,11 +41,11 @@ class Status(SiteTest):
         ])
 
     def test_columns_and_order(self) -> None:
-        """Hard problems come first, the oldest first, then soft ones, then the others by name. Texts have no performance data."""
+        """Hard problems come first, by severity, then soft ones, then the others by name. Texts have no performance data."""
         self.fill()
         self.assertEqual(printed(str(self.folder), "status"), (0, "\n".join([
-            "UNREACHABLE HARD 10 running  gate:",
             "DOWN        HARD 1  FLAPPING db:            gone",
+            "UNREACHABLE HARD 10 running  gate:",
             "WARNING     SOFT 2           web;http:      slow",
             "UP          HARD 1           web:           PING OK",
             "PENDING             off      web;a new one:",
@@ -100,14 +99,14 @@ class OtherUsers(SiteTest):
     def test_none(self) -> None:
         """The owner and root get no advice. A user without a name has a number, and a file that nobody can see belongs to nobody known."""
         path = self.folder / "monitor.db"
-        self.assertEqual(users.owner_advice(path), "")
+        self.assertEqual(faults.owner_advice(path), "")
         for number in (0, self.folder.stat().st_uid):
             with mock.patch("os.geteuid", return_value=number):
-                self.assertEqual(users.owner_advice(path), "")
+                self.assertEqual(faults.owner_advice(path), "")
         with mock.patch("os.geteuid", return_value=NOBODY):
-            self.assertEqual(users.owner_advice(self.folder / "no/such/file"), "")
+            self.assertEqual(faults.owner_advice(self.folder / "no/such/file"), "")
         with mock.patch("pwd.getpwuid", side_effect=KeyError):
-            self.assertEqual(users.user_name(4_711), "#4711")
+            self.assertEqual(faults.user_name(4_711), "#4711")
 
     def test_a_real_one(self) -> None:
         """As another user, who can't enter the folder."""
@@ -132,12 +131,12 @@ class OwnFiles(SiteTest):
         version = (TOP / "VERSION").read_text().strip()
         self.assertEqual((ran.returncode, ran.stdout, ran.stderr), (0, f"nagsched-monitor {version}\n", ""))
         (self.folder / "lib").mkdir()
-        with mock.patch.object(build_record, "HOME", self.folder / "lib"):
-            self.assertIn("no file VERSION", build_record.own_version())
+        with mock.patch.object(monitor, "HOME", self.folder / "lib"):
+            self.assertIn("no file VERSION", monitor.own_version())
             (self.folder / "VERSION").write_text("1\n")
-            self.assertEqual(build_record.own_version(), "1")
+            self.assertEqual(monitor.own_version(), "1")
             (self.folder / "lib/VERSION").write_text("2\n")
-            self.assertEqual(build_record.own_version(), "2")
+            self.assertEqual(monitor.own_version(), "2")
 
     def test_program(self) -> None:
         """The program on the path comes first, then the one next to the monitor, then the one that a checkout has built."""

@@ -1,17 +1,23 @@
 """The database: changed rows are found, and a failed write changes nothing."""
 import contextlib
+import os
 import sqlite3
 from typing import List
+from unittest import mock
 
 from nagsched_monitor.faults import MonitorFault, NotStored
+from nagsched_monitor.model.remarks import Remark
+from nagsched_monitor.store.remark_table import store_remark
 from nagsched_monitor.store.rows import LOSSES, TABLES, VERSION, Generation, StoredChange, StoredStanding, checksum_of
+from nagsched_monitor.store.generations import begin_generations
 from nagsched_monitor.store.store import (
-    Store, begin_generations, delete, drop_changes_before, insert, store_calls, store_change, store_figures, store_request, store_standings,
+    Store, delete, drop_changes_before, insert, store_calls, store_change, store_figures, store_request, store_standings,
 )
 
 from .simulated import SiteTest
 
 STANDING = StoredStanding("web", "DOWN", "HARD", 3, False, 990.5, 1000.5, 1000.25, 1060.0, True, None, 0.5, 0.0, "no answer", 60_000, 61_000)
+REMARK = Remark(3, "downtime", "web", "ada", "move", 1000.5, 1000.5, 2000.0, True, False, 60.0, 1030.0, "DOWN")
 CHANGE = StoredChange(2, 1000.5, "web", "DOWN", "HARD", 3, False, "no answer")
 
 
@@ -32,6 +38,7 @@ class Database(SiteTest):
             store_figures({"saves": 3.0}),
             store_request("a-1", "{}"),
             insert("aside", 1, 0, '["take",8]'),
+            store_remark(REMARK),
         )
         return store
 
@@ -46,6 +53,7 @@ class Database(SiteTest):
         self.assertEqual(store.generations()[0].mirrors, {"gateway"})
         self.assertEqual((store.outbox(), store.figures()), ([(1, '{"name":"web"}', 8)], {"saves": 3.0}))
         self.assertEqual(store.standings(), [STANDING])
+        self.assertEqual(store.remarks(), [REMARK])
         store.write(store_figures({"moment": 9.0}))
         self.assertEqual(store.last_moment(), 9)
         store.write(delete("standings", "name = ?", "web"))
@@ -232,6 +240,34 @@ class Database(SiteTest):
             store.write(store_figures({"calls": 7.0}))
         away.replace(path)
         store.write(store_figures({"calls": 7.0}))
+
+    def test_a_new_database_leaves_no_file_open(self) -> None:
+        store, count = self.filled(), len(os.listdir("/proc/self/fd"))
+        store.renew()
+        self.assertEqual(len(os.listdir("/proc/self/fd")), count)
+        store.close()
+        self.assertEqual(len(os.listdir("/proc/self/fd")), count - 5)  # the file and the index twice, and SQLite's log
+
+    def test_a_program_that_reads_without_an_end(self) -> None:
+        """The log says so when SQLite's log is too large, at twice the size, and of another such program."""
+        for module in ("store", "database_file"):
+            smaller = mock.patch(f"nagsched_monitor.store.{module}.LARGEST_LOG", 6_400_000)
+            smaller.start()
+            self.addCleanup(smaller.stop)
+        lines: List[str] = []
+        store = Store(self.folder, lines.append)
+        self.addCleanup(store.close)
+        for program in (1, 2):
+            with contextlib.closing(sqlite3.connect(store.path, isolation_level=None)) as reader:
+                reader.execute("BEGIN")
+                reader.execute("SELECT * FROM figures").fetchall()
+                for number, told in ((1, 0), (5, 0), (8, 1), (12, 1), (15, 2)):
+                    while store.file.log_size() < number * 1_000_000:
+                        store.write(insert("not_taken", 1, "x" * 1_000_000))
+                    self.assertEqual(len(lines), 2 * (program - 1) + told)
+            for _ in range(3):
+                store.write(insert("not_taken", 1, "x"))
+        self.assertRegex(lines[0], "monitor.db-wal has [67] MB and grows: end the program")
 
     def test_a_saved_state_lets_go_of_the_calls_before(self) -> None:
         store = self.filled()

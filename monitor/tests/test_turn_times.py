@@ -5,8 +5,8 @@ import unittest
 from typing import List, Tuple
 from unittest import mock
 
-from nagsched_monitor.model.clock import SystemClock
-from nagsched_monitor.model.object_state import ENOUGH, LONGEST_SHARING, DueQueue
+from nagsched_monitor.model.clock import Clock
+from nagsched_monitor.model.objects import ENOUGH, LONGEST_SHARING, DueQueue
 from nagsched_monitor.program.loop import BETWEEN_TURNS, Loop, next_turn_time
 from nagsched_monitor.system.poller import FilePoller
 
@@ -60,21 +60,21 @@ class Shared(unittest.TestCase):
         due = DueQueue()
         self.assertIsNone(due.shared_time())
         for name, at in (("a", 5), ("b", 7), ("c", 5 + LONGEST_SHARING), ("d", 6 + LONGEST_SHARING)):
-            due.set_time(name, at)
+            due.set_time((0, name), at)
         self.assertEqual((due.first_time(), due.shared_time()), (5, 5 + LONGEST_SHARING))
-        due.set_time("c", None)
+        due.set_time((0, "c"), None)
         self.assertEqual((due.first_time(), due.shared_time()), (5, 7))
-        due.set_time("f", 5 + LONGEST_SHARING)
+        due.set_time((0, "f"), 5 + LONGEST_SHARING)
         self.assertEqual(due.shared_time(), 5 + LONGEST_SHARING)
-        due.set_time("g", 5)
+        due.set_time((0, "g"), 5)
         self.assertEqual(due.shared_time(), 7)  # two that are due together wait half as long
-        due.set_time("f", None)
-        due.set_time("g", None)
+        due.set_time((0, "f"), None)
+        due.set_time((0, "g"), None)
         for number in range(ENOUGH - 1):
             self.assertEqual((due.first_time(), due.shared_time()), (5, 7))
-            due.set_time(f"e{number}", 5)
+            due.set_time((number % 2, f"e{number}"), 5)
         self.assertEqual((due.first_time(), due.shared_time()), (5, 5))
-        self.assertEqual(len(due.due_names(6)), ENOUGH)
+        self.assertEqual(sum(map(len, due.due_names(6).values())), ENOUGH)
         self.assertEqual((due.first_time(), due.shared_time()), (7, 6 + LONGEST_SHARING))
 
 
@@ -86,7 +86,7 @@ class Waiting(unittest.TestCase):
         self.read: List[bytes] = []
         self.poller = FilePoller()
         self.poller.watch(self.there, lambda: self.read.append(os.read(self.there, 10)))
-        self.clock = SystemClock()
+        self.clock = Clock()
         self.loop = Loop(mock.Mock(), self.poller, self.clock, lambda line: None, [], [], [])
 
     def test_what_came_since_the_last_turn_has_a_turn_at_once(self) -> None:

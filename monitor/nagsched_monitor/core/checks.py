@@ -1,45 +1,55 @@
-"""The times of checks: switches, periods, freshness, phases, operators and results set them."""
+"""The times of checks: switches, periods, freshness, phases, operators and results set them.
+
+The age of what is known is the time since each object's last result, compared with the time that its site promises. It finds every cause that keeps
+results away: no plugin can be started, a runner is away, a scheduler or the disk fails."""
 import collections
 from functools import partial
-from typing import Callable, Dict, List, Mapping, Optional, Sequence, Tuple
+from typing import Callable, Dict, List, Mapping, NamedTuple, Optional, Sequence, Tuple
 
 from ..model.clock import Clock
-from ..model.definitions import ObjectDefinition
-from ..model.object_state import HOST_FIRST, RESULT_FIRST, ObjectState
-from ..model.protocol import Enable, Reschedule, Standing, Take
-from ..scheduler.scheduling import Scheduling
+from ..model.objects import HOST_FIRST, RESULT_FIRST, ObjectDefinition, ObjectState
+from ..model.protocol import NO_PROBLEM, Enable, Reschedule, Standing, Take
+from ..scheduler.scheduling import Plan, Scheduling
 from .passive import PassiveResults
-from .plan import Plan
 
-# The time within which overdue checks are made, in milliseconds, unless their interval is shorter.
-WINDOW = 15_000
+WINDOW = 15_000  # the time within which overdue checks are made, in milliseconds, unless their interval is shorter
 # The greatest difference from the phase that a next check may keep, in milliseconds.
 TOLERANCE = 250
-UP_STATES = ("PENDING", "OK", "UP")
+# The time after two intervals and the limit of the plugin until an object is overdue, and between two log lines about overdue objects, in milliseconds.
+MARGIN = 60_000
+LOG_AGAIN = 600_000
+
+
+class Overdue(NamedTuple):
+    """The objects without a result in time: how many of how many, and by how many milliseconds which object is overdue the longest."""
+
+    number: int
+    promised: int
+    by: int
+    name: str
 
 
 class Checks:
     def __init__(self, scheduling: Scheduling, passive: PassiveResults, operator: Dict[str, bool], clock: Clock, log: Callable[[str], None]) -> None:
         self._scheduling, self._passive, self._clock, self._log = scheduling, passive, clock, log
         self._objects = scheduling.states.objects
-        self._operator_switches = operator
+        self.operator_switches = operator
         # The next checks that wait to be set, and the objects that were switched on.
         self.planned_checks: Dict[str, Reschedule] = {}
         self._to_spread: List[str] = []
         # The periods that include the minute for which they were looked at last.
         self._periods: Mapping[str, bool] = {}
         self._minute: Optional[int] = None
+        self._logged_at: Optional[int] = None  # when overdue objects were logged last, while there are some
 
     def has_more(self, now: int) -> bool:
         """Whether something has to be planned at once. A next check that waits to be set for later isn't urgent."""
         urgent = [self._objects[name] for name, call in self.planned_checks.items() if call.time <= now and name in self._objects]
         return bool(self._to_spread) or any(self._scheduling.is_open(obj.definition.part) for obj in urgent)
 
-    # ---- switches and periods
-
     def is_to_be_enabled(self, definition: ObjectDefinition, switch: Optional[bool] = None) -> bool:
         """Whether the active checks of an object have to be on: both the operator's switch and its period have to allow them."""
-        on = self._operator_switches.get(definition.name, definition.enabled) if switch is None else switch
+        on = self.operator_switches.get(definition.name, definition.enabled) if switch is None else switch
         return on and not definition.passive_only and self.is_in_period(definition)
 
     def is_in_period(self, definition: ObjectDefinition) -> bool:
@@ -64,13 +74,11 @@ class Checks:
     def apply_switch(self, obj: ObjectState, on: Optional[bool]) -> None:
         """An operator's switch was stored; None if it was removed."""
         if on is None:
-            self._operator_switches.pop(obj.name, None)
+            self.operator_switches.pop(obj.name, None)
         else:
-            self._operator_switches[obj.name] = on
+            self.operator_switches[obj.name] = on
         if on is not False:
             self._to_spread.append(obj.name)
-
-    # ---- next checks that wait to be set
 
     def plan_check(self, obj: ObjectState, time: int, forced: bool) -> None:
         """Has the next check of an object set, with the next plan."""
@@ -117,12 +125,16 @@ class Checks:
     def plan_takes(self, plan: Plan, now: int) -> None:
         """A take for each check that is due and has a free slot."""
         states = self._scheduling.states
-        names = (states.due.due_names(now) - plan.later) | plan.at_once
-        if not names:
+        due = states.due.due_names(now)
+        counts = collections.Counter({part: len(names) for part, names in due.items()})
+        for part, name in (self._objects[name].key for name in plan.later - plan.at_once):
+            counts[part] -= name in due[part]
+        for part, name in (self._objects[name].key for name in plan.at_once):
+            counts[part] += name not in due[part]
+        if not any(counts.values()):
             return
         free = self._scheduling.site.options.slots - sum(job.runner is None for job in states.running.plugins()) + plan.freed
-        due = collections.Counter(self._objects[name].definition.part for name in names)
-        for part, count in sorted(due.items()):
+        for part, count in sorted(counts.items()):
             if self._scheduling.is_open(part):
                 taken = max(0, min(count, free))
                 plan.calls += [(part, Take(now), None)] * taken
@@ -144,6 +156,45 @@ class Checks:
             is_fresh = host.last_result is not None and now - host.last_result < horizon
             if not is_fresh and host.run is None and host.on and host.next not in (HOST_FIRST, RESULT_FIRST):
                 self.plan_check(host, HOST_FIRST, host.forced)
+
+    def promise(self, obj: ObjectState, now: int) -> Optional[int]:
+        """The time within which a result of an object has to come, in milliseconds; None while none is promised."""
+        its = obj.definition
+        if its.command is None or obj.operator_check is not None and obj.operator_check[0] > now:
+            return None
+        margin = round(its.command.limit * 1000) + MARGIN
+        if obj.on and its.check_interval > 0:
+            return 2 * max(its.check_interval, its.retry_interval) + margin
+        return its.freshness + margin if its.freshness is not None and self.is_in_period(its) else None
+
+    def overdue(self) -> Overdue:
+        """Looks over all objects. The time of an object that is promised nothing begins when it is."""
+        now, number, promised, by, name = self._clock.moment(), 0, 0, 0, ""
+        for obj in self._objects.values():
+            promise = self.promise(obj, now)
+            if promise is None:
+                obj.known_at = now
+                continue
+            promised += 1
+            # The first check of an object may be as far off as its phase.
+            since = obj.known_at if obj.phase is None else max(obj.known_at, obj.phase - obj.definition.check_interval)
+            late = now - since - promise
+            if late > 0:
+                number += 1
+                by, name = max((by, name), (late, obj.name))
+        return Overdue(number, promised, by, name)
+
+    def figures(self) -> Dict[str, float]:
+        """The figures of overdue objects, which are logged when they begin and end, and every ten minutes."""
+        found, now = self.overdue(), self._clock.moment()
+        if found.number and (self._logged_at is None or now - self._logged_at >= LOG_AGAIN):
+            late = f"{found.name} is overdue by {found.by / 1000:.0f} seconds"
+            self._log(f"not checked: {found.number} of {found.promised} objects have no result in time; {late}")
+            self._logged_at = now
+        elif not found.number and self._logged_at is not None:
+            self._log("all objects have results in time again")
+            self._logged_at = None
+        return {"overdue": found.number, "promised": found.promised, "overdue_by": found.by / 1000}
 
 
 def next_in_phase(phase: int, interval: int, now: int) -> int:
@@ -168,17 +219,15 @@ def hosts_to_check(obj: ObjectState, before: Optional[Standing], now: Standing, 
     """The hosts that have to be checked at once after a result of an object, as in Nagios; `children` are the hosts that have it as a parent."""
     was, is_problem = state_of(before), now.is_problem()
     if obj.definition.host is not None:
+        # A service's host: after another problem while the host is up or was never checked, or an OK while it isn't up.
         host = objects.get(obj.definition.host)
-        return [host] if host is not None and is_host_check_needed(was, now, state_of(host.standing)) else []
-    if (was in UP_STATES) != is_problem:
+        state = state_of(None if host is None else host.standing)
+        is_needed = now.state != was and state in NO_PROBLEM if is_problem else state != "UP"
+        return [host] if host is not None and is_needed else []
+    if (was in NO_PROBLEM) != is_problem:
         return []
     # The parents and children that a host's result affects. A host that was never checked counts as up.
-    expected = ("UNREACHABLE",) if is_problem else UP_STATES
+    expected = ("UNREACHABLE",) if is_problem else NO_PROBLEM
     parents = [objects[name] for name in obj.definition.parents if name in objects]
-    odd_parents = [each for each in parents if (state_of(each.standing) in UP_STATES) != is_problem]
+    odd_parents = [each for each in parents if (state_of(each.standing) in NO_PROBLEM) != is_problem]
     return odd_parents + [objects[name] for name in children if state_of(objects[name].standing) not in expected]
-
-
-def is_host_check_needed(was: str, now: Standing, host: str) -> bool:
-    """Whether a service's result asks for its host: a new or other problem while the host is up or was never checked, or an OK while it isn't up."""
-    return now.state != was and host in UP_STATES if now.is_problem() else host != "UP"

@@ -1,36 +1,30 @@
 """The monitor's core. A turn reads events, plans one list of calls, stores it, makes it, and acts on the answers.
 
 A turn can be refused only while it is stored, and then nothing has changed. Clock, runners, schedulers and database are parameters, so that tests can
-simulate a day in seconds.
-"""
+simulate a day in seconds."""
 import collections
 from functools import partial
 from typing import Any, Callable, Deque, Dict, List, Optional, Sequence
 
 from ..faults import ConversationEnded, NotStored
 from ..model.clock import Clock
-from ..model.object_state import ObjectState
+from ..model.objects import ObjectState, Owner
 from ..model.protocol import Abandon, Call, Freed, PutOff, Refused, Report, Reschedule, Standing, Taken, call_line
-from ..model.run_table import Owner
 from ..run.runners import RunnerPools
-from ..scheduler.scheduling import ObjectAnswer, Scheduling
+from ..scheduler.scheduling import ObjectAnswer, Plan, Scheduling
 from ..site.site import Site
 from ..store.counters import Counters
 from ..store.store import Store, store_figures
-from .ages import Ages
 from .checks import WINDOW, Checks
 from .passive import PassiveResults
-from .plan import Plan
 from .plugin_runs import MARGIN, PluginRuns
 from .requests import Actions, Request, Requests
 
-# The longest time between two turns that isn't a pause, in milliseconds.
-PAUSE = 10_000
+PAUSE = 10_000  # the longest time between two turns that isn't a pause, in milliseconds
 # The longest wait for the next turn, and how soon a change is stored or a next check is set, in milliseconds.
 LONGEST_WAIT = 1_000
 CHANGES_WAIT = 100
-# How long a check whose result was refused waits for the next one, in milliseconds.
-AFTER_REFUSAL = 60_000
+AFTER_REFUSAL = 60_000  # how long a check whose result was refused waits for the next one, in milliseconds
 # The number of calls after which the next part is saved, the time in which each part is saved, and the pause before another try, in milliseconds.
 SAVE_CALLS = 50_000
 SAVE_AFTER = 300_000
@@ -45,11 +39,13 @@ class Engine:
         self._now = clock.moment()
         figures = store.figures()
         self.counters = Counters(figures, clock)
+        spooled_at = 0.0 if store.spooled is None else figures.get("spooled_at") or clock.wall()
+        self.counters.note({"spooled": -1 if store.spooled is None else store.spooled, "spooled_at": spooled_at})
         self.passive = PassiveResults(store, scheduling, log)
         self.checks = Checks(scheduling, self.passive, store.switches(), clock, log)
-        self.ages = Ages(self.objects, self.checks, clock, log)
         self.plugins = PluginRuns(scheduling, runners, clock, log, self.counters)
-        self.requests = Requests(scheduling, store, self.checks, self.passive, clock, log, Actions(self.signs, self.save, reload, stop))
+        actions = Actions(self.signs, self.save, self.counters.note, self._renew_database, reload, stop, self.counters.count)
+        self.requests = Requests(scheduling, store, self.checks, self.passive, clock, log, actions)
         # Requests that wait for a turn, and those that are stored and not answered yet.
         self._requests: List[Request] = []
         self._stored_requests: List[Request] = []
@@ -66,8 +62,6 @@ class Engine:
             start, last = scheduling.parts[obj.definition.part].generation.start, obj.history.last_check
             obj.awaited_since = start if last is None else self._now - round(max(0.0, until - last) * 1000)
             obj.known_at = obj.known_at + away if obj.known_at else obj.awaited_since
-
-    # ---- a turn
 
     def turn(self) -> int:
         """Does all the work that is due now, and returns the moment for which the next turn is wanted."""
@@ -140,8 +134,8 @@ class Engine:
         self.checks.plan_next_checks(plan, now)
         self.passive.plan_takes(plan, now)
         self.checks.plan_takes(plan, now)
-        if self.counters.are_due(now):
-            figures = self.counters.changed_figures(self.store.last_call, self.ages.figures())
+        if self.is_stuck or self.counters.are_due(now):  # a stuck monitor has something to write in each turn, which shows when it can
+            figures = self.counters.changed_figures(self.store.last_call, self.checks.figures())
             plan.writes.append(store_figures(figures))
             plan.then.append(partial(self.counters.set_written, figures))
         return plan
@@ -158,8 +152,6 @@ class Engine:
             plan.then += step.then
             plan.last += step.last
             plan.at_once |= step.at_once
-
-    # ---- answers
 
     def _apply(self, object_answer: ObjectAnswer) -> None:
         call, answer, obj, before = object_answer
@@ -202,19 +194,15 @@ class Engine:
         else:
             self._log(f"{obj.name} has no command: no check of it is made")
 
-    def time_since_turn(self) -> int:
-        """The milliseconds since the beginning of the last turn that stored everything it had to."""
-        return self._clock.moment() - (self._now if self._last_turn is None else self._last_turn)
-
     def signs(self) -> Dict[str, Any]:
-        """The signs of life, for those who ask."""
-        wall, overdue = self._clock.wall(), self.ages.overdue()
+        wall, overdue = self._clock.wall(), self.checks.overdue()
+        since_turn = self._clock.moment() - (self._now if self._last_turn is None else self._last_turn)
         try:
             changes, first = self.store.waiting_changes()
         except NotStored:
             changes, first = 0, None
         return {
-            "turn": wall - self.time_since_turn() / 1000, "is_stuck": self.is_stuck, "passive_waiting": self.passive.count, "changes_waiting": changes,
+            "turn": wall - since_turn / 1000, "is_stuck": self.is_stuck, "passive_waiting": self.passive.count, "changes_waiting": changes,
             "oldest_change": 0.0 if first is None else max(0, self._clock.moment() - first) / 1000, "runners": self.runners.process_counts(),
             "overdue": overdue.number, "promised": overdue.promised, "overdue_by": overdue.by / 1000, "most_overdue": overdue.name,
             "out": len(self.scheduling.states.running.plugins()), "made": self.counters.result_count, "latest_start": self.counters.latest_start,
@@ -235,16 +223,19 @@ class Engine:
                 self._save_at, self._saved_call = self._now + SAVE_AGAIN, self.store.last_call
 
     def save(self, parts: Optional[Sequence[int]] = None) -> None:
-        """Saves these parts, or all."""
         for part in self.scheduling.parts if parts is None else parts:
             self.scheduling.save(part)
         self._schedule_save()
         self.counters.count_save()
 
+    def _renew_database(self) -> None:
+        self.scheduling.renew_database(*self.requests.rows())
+        self.counters.write_all()
+        self._schedule_save()
+
     def close(self) -> None:
-        """Saves the state and the figures."""
         self.save()
-        self.store.write(store_figures(self.counters.changed_figures(self.store.last_call, self.ages.figures())))
+        self.store.write(store_figures(self.counters.changed_figures(self.store.last_call, self.checks.figures())))
 
     def reload(self, site: Site) -> List[str]:
         """Takes over another site; running checks continue. If it is refused, nothing has changed. Returns the changes of objects that stay."""

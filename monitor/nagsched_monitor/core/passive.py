@@ -1,20 +1,17 @@
 """Passive results that wait: each is reported as the result of a check that is taken for it."""
 import collections
 from functools import partial
-from typing import Callable, Deque, Dict, Iterator
+from typing import Callable, Deque, Dict, Iterator, List
 
 from ..faults import NotStored
-from ..model.object_state import RESULT_FIRST, ObjectState
+from ..model.objects import RESULT_FIRST, ObjectState, Owner
 from ..model.protocol import Report, Take
-from ..model.run_table import Owner
 from ..scheduler.mirroring import forced_take
-from ..scheduler.scheduling import Scheduling
+from ..scheduler.scheduling import Plan, Scheduling
 from ..store.rows import StoredResult
-from ..store.store import Store, delete
-from .plan import Plan
+from ..store.store import Store, Write, delete, insert
 
-# The greatest number of results that may wait.
-MOST_WAITING = 10_000
+MOST_WAITING = 10_000  # the greatest number of results that may wait
 
 
 class PassiveResults:
@@ -32,6 +29,9 @@ class PassiveResults:
         self._results.setdefault(result.name, collections.deque()).append(result)
         self.count += 1
 
+    def rows(self) -> List[Write]:
+        return [insert("passive", *result) for results in self._results.values() for result in results]
+
     def __contains__(self, name: object) -> bool:
         return name in self._results
 
@@ -47,7 +47,6 @@ class PassiveResults:
                 yield obj
 
     def plan_takes(self, plan: Plan, now: int) -> None:
-        """Takes each object that has a result and isn't running."""
         for obj in self._takeable_objects():
             if obj.next != RESULT_FIRST:
                 plan.calls += forced_take(obj.definition.part, obj.name, RESULT_FIRST, now)
@@ -56,7 +55,6 @@ class PassiveResults:
                 plan.later.add(obj.name)
 
     def plan_reports(self, plan: Plan, now: int) -> None:
-        """Reports the results for which their objects were taken."""
         for run in self._scheduling.states.running.owned_by(Owner.RESULT):
             part, name = run.key
             if name not in self._results or not self._scheduling.is_reportable(run.key):
@@ -77,7 +75,6 @@ class PassiveResults:
             del self._results[result.name]
 
     def drop_others(self) -> None:
-        """Drops the results of objects that aren't part of the site."""
         gone = sorted(name for name in self._results if name not in self._scheduling.states.objects)
         writes = [delete("passive", "id = ?", result.id) for name in gone for result in self._results.pop(name)]
         self.count -= len(writes)

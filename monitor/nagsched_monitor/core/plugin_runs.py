@@ -4,28 +4,23 @@ from functools import partial
 from typing import Callable, Counter, Dict, List, Tuple, Union
 
 from ..model.clock import Clock
-from ..model.definitions import Command
 from ..model.jobs import Event, Job, JobFinished, JobLost, StuckJobEnded
-from ..model.object_state import FIRST_TIME, ObjectState
+from ..model.objects import FIRST_TIME, Command, ObjectState, Owner, Run
 from ..model.protocol import GREATEST_CODE, Abandon, Report, Reschedule
-from ..model.run_table import Owner, Run
 from ..model.text import plain_text
 from ..run.runners import RunnerPools
 from ..scheduler.mirroring import PlannedCall
-from ..scheduler.scheduling import Scheduling
+from ..scheduler.scheduling import Plan, Scheduling
 from ..store.counters import Counters
 from ..system.log import RepeatedLines
-from .plan import Plan
 
 # How often a check whose runner ended is made again, and its result if it is lost once more.
 MOST_LOST = 2
 CRITICAL, UNKNOWN = 2, 3
-# The time after its limit within which a result may come, in milliseconds.
-MARGIN = 15_000
+MARGIN = 15_000  # the time after its limit within which a result may come, in milliseconds
 # The pause before the next try of a check that this machine couldn't start, in milliseconds. It doubles each time, up to the longest.
 RETRY, LONGEST_RETRY = 1_000, 60_000
-# The time between two sweeps of all runs, in milliseconds.
-SWEEP = 1_000
+SWEEP = 1_000  # the time between two sweeps of all runs, in milliseconds
 
 
 class PluginRuns:

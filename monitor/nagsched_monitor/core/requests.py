@@ -1,44 +1,41 @@
-"""Requests to a running monitor: one JSON object in each direction.
+"""Requests to a running monitor: one JSON object in each direction. `Requests` has the words, with the members of each. These aren't commands of people:
 
-    {"do":"signs"}                                        signs of life of the monitor
-    {"do":"reschedule","name":N,"at":T,"force":true}      the next check of an object: now without `at`, which is in seconds since 1970
-    {"do":"enable","name":N}    {"do":"disable","name":N} an operator's switch
-    {"do":"default","name":N}                             the setup's switch counts again
-    {"do":"result","name":N,"code":0,"output":"..."}      a passive result
-    {"do":"notify-test"}                                  a marked change for the command for changes
-    {"do":"reload"}   {"do":"save"}   {"do":"stop"}
+    refused       a command that another program refused: it is logged and counted
+    spooled       the results up to a call are in the spool of performance data, except those of missed calls
 
 An answer with `error` is a refusal that changed nothing; with `"again":true` the same request may be obeyed later. A request may have a `number`, a text: the
-same number isn't obeyed twice, and gets the answer of the first time.
-"""
+same number isn't obeyed twice, and gets the answer of the first time."""
+import contextlib
 import json
 import traceback
 from dataclasses import dataclass
 from functools import partial
 from typing import Any, Callable, Dict, List, Mapping, NamedTuple, Optional, Sequence, Set, Tuple
 
-from ..faults import AskAgain, ConversationEnded, MonitorFault, NotStored, RequestFault
+from ..faults import AskAgain, ConversationEnded, MonitorFault, NotStored, RequestFault, raising, require
 from ..model.clock import LAST_TIME, Clock
-from ..model.object_state import FIRST_TIME, ObjectState
-from ..model.protocol import Enable, Reschedule
-from ..model.text import MOST_OUTPUT_BYTES, plain_text
-from ..scheduler.changes import test_document
+from ..model.objects import FIRST_TIME, ObjectState
+from ..model.protocol import GREATEST, Enable, Reschedule
+from ..model.remarks import Remark
+from ..model.text import MOST_OUTPUT_BYTES, first_line, plain_text
 from ..scheduler.mirroring import PlannedCall
-from ..scheduler.scheduling import Scheduling
-from ..store.rows import StoredResult
-from ..store.store import MOST_REQUESTS, Store, delete, insert, store_document, store_request
+from ..scheduler.scheduling import Plan, Scheduling
+from ..site.json_files import ANY, FLAG, TEXT, Form, Forms, test_members, whole
+from ..store.rows import StoredChange, StoredResult
+from ..store.remark_table import end_remark, store_new_remark
+from ..store.store import MOST_REQUESTS, Store, Write, delete, insert, store_document, store_figures, store_request
 from .checks import Checks
 from .passive import MOST_WAITING, PassiveResults
-from .plan import Plan
+from .remark_requests import CHOICES, MOST_REMARKS, OTHERS, chosen_remarks, new_remark
 
 LONGEST_NUMBER = 128
+CODE = whole(0, 3)
+NAME: Forms = {"name": ANY}
 Members = Mapping[str, Any]
 
 
 @dataclass
 class Request:
-    """A line of a client, with the receiver of its answer."""
-
     line: bytes
     reply: Callable[[Mapping[str, Any]], None]
     # Its answer, once it is known; None if it comes later. An answer with the member `done` counts when the turn is stored.
@@ -46,12 +43,13 @@ class Request:
 
 
 class Actions(NamedTuple):
-    """Actions of the monitor that requests ask for."""
-
     signs: Callable[[], Dict[str, Any]]
     save: Callable[[], None]
+    note: Callable[[Mapping[str, float]], None]  # it takes over figures that are stored
+    renew: Callable[[], None]  # it puts a new database in the place of a file that is gone or another's
     reload: Callable[[Request], None]  # it answers the request later
     stop: Callable[[], None]
+    count_one: Callable[[str], None]  # one more of a figure
 
 
 class Requests:
@@ -64,22 +62,30 @@ class Requests:
         self._numbers = store.requests()
         self._planned: Set[str] = set()
         self._results = 0
+        self._remarks: Dict[int, Optional[Remark]] = {}  # what the requests of this turn make of remarks; None for nothing
         # The planner of each word, and the other members that its request may have.
-        self._planners: Dict[str, Tuple[Callable[[Members, Request], Plan], Sequence[str]]] = {
-            "signs": (self._plan_signs, ()),
-            "reschedule": (self._plan_reschedule, ("name", "at", "force")),
-            "enable": (partial(self._plan_switch, on=True), ("name",)),
-            "disable": (partial(self._plan_switch, on=False), ("name",)),
-            "default": (partial(self._plan_switch, on=None), ("name",)),
-            "result": (self._plan_result, ("name", "code", "output")),
-            "notify-test": (self._plan_notify_test, ()),
-            "reload": (lambda _, request: Plan(then=[partial(self._actions.reload, request)]), ()),
-            "save": (lambda _, request: Plan(last=[partial(self._save_now, request)]), ()),
-            "stop": (self._plan_stop, ()),
+        at = Form("a number of seconds since 1970", lambda value: type(value) in (int, float))
+        self._planners: Dict[str, Tuple[Callable[[Members, Request], Plan], Forms]] = {
+            "signs": (self._plan_signs, {}),
+            "reschedule": (self._plan_reschedule, {**NAME, "at": at, "force": FLAG}),
+            "enable": (partial(self._plan_switch, on=True), NAME),
+            "disable": (partial(self._plan_switch, on=False), NAME),
+            "default": (partial(self._plan_switch, on=None), NAME),
+            "result": (self._plan_result, {**NAME, "code": CODE, "output": TEXT}),
+            **{word: (self._plan_remark, others) for word, others in OTHERS.items()},
+            "remove": (self._plan_remove, CHOICES),
+            "refused": (self._plan_refused, {"text": ANY}),
+            "notify-test": (self._plan_notify_test, {}),
+            "reload": (lambda _, request: Plan(then=[partial(self._actions.reload, request)]), {}),
+            "spooled": (self._plan_spooled, {"call": whole(0, GREATEST), "missed": ANY}),
+            "save": (lambda _, request: Plan(last=[partial(self._save_now, request)]), {}),
+            "new-database": (self._plan_new_database, {}),
+            "stop": (self._plan_stop, {}),
         }
 
     def begin_turn(self) -> None:
         self._planned.clear()
+        self._remarks.clear()
         self._results = 0
 
     def plan(self, request: Request) -> Plan:
@@ -105,13 +111,11 @@ class Requests:
         return step
 
     def _earlier_answer(self, number: object) -> Optional[Dict[str, Any]]:
-        """The earlier answer to a number that was already obeyed."""
         if not isinstance(number, str) or not 0 < len(number) <= LONGEST_NUMBER:
             raise RequestFault(f"number is a text of 1 to {LONGEST_NUMBER} characters")
         if number != plain_text(number, 4 * LONGEST_NUMBER):
             raise RequestFault("number has half a character or a control character")
-        if number in self._planned:
-            raise AskAgain("a request with this number is being obeyed")
+        require(number not in self._planned, "a request with this number is being obeyed", AskAgain)
         answer: Optional[Dict[str, Any]] = json.loads(self._numbers.get(number, "null"))
         return answer
 
@@ -121,7 +125,6 @@ class Requests:
             del self._numbers[next(iter(self._numbers))]
 
     def answer(self, asked: Sequence[Request]) -> None:
-        """Answers the requests of a turn whose answers are known."""
         for request in asked:
             if request.answer is not None:
                 request.reply(request.answer)
@@ -133,22 +136,16 @@ class Requests:
                 request.answer = {"error": why, **({"again": True} if is_later else {})}
         self.answer(asked)
 
-    # ---- reading a request
-
     def _read_request(self, line: bytes) -> Dict[str, Any]:
         """The members of a request that has a known word and no unknown member."""
-        try:
+        with raising(RequestFault, "the request isn't JSON", ValueError, RecursionError):
             members = json.loads(line)
-        except (ValueError, RecursionError) as error:
-            raise RequestFault(f"the request isn't JSON: {error}") from None
         if not isinstance(members, dict):
             raise RequestFault("a request has to be a JSON object")
         word = members.get("do")
         if not isinstance(word, str) or word not in self._planners:
             raise RequestFault(f"\"do\" has to be one of {', '.join(self._planners)}, not {word!r}")
-        for member in members:
-            if member not in ("do", "number", *self._planners[word][1]):
-                raise RequestFault(f"a member {member!r} isn't known here")
+        test_members(members, {"do": ANY, "number": ANY, **self._planners[word][1]}, fault=RequestFault)
         return members
 
     def _find_object(self, members: Members, is_called: bool = True) -> ObjectState:
@@ -163,8 +160,6 @@ class Requests:
             raise AskAgain("the scheduler of this object is being started again")
         return obj
 
-    # ---- the words
-
     def _plan_signs(self, members: Members, request: Request) -> Plan:
         request.answer = self._actions.signs()
         return Plan()
@@ -173,8 +168,6 @@ class Requests:
         obj = self._find_object(members)
         now, wall = self._clock.moment(), self._clock.wall()
         at, forced = members.get("at", wall), members.get("force", False)
-        if isinstance(at, bool) or not isinstance(at, (int, float)) or not isinstance(forced, bool):
-            raise RequestFault("at has to be a number of seconds since 1970, and force true or false")
         time = now + round((at - wall) * 1000) if abs(at) < LAST_TIME else -1
         if time < FIRST_TIME:
             raise RequestFault(f"at has to be a time from 1970 to 9998, in seconds since 1970, not {at!r}")
@@ -189,21 +182,17 @@ class Requests:
 
     def _plan_switch(self, members: Members, request: Request, on: Optional[bool]) -> Plan:
         obj, checks = self._find_object(members), self._checks
-        if on and obj.definition.command is None:
-            raise RequestFault(f"{obj.name} has no command")
+        require(not on or obj.definition.command is not None, f"{obj.name} has no command", RequestFault)
         word, wanted = members["do"], checks.is_to_be_enabled(obj.definition, obj.definition.enabled if on is None else on)
         request.answer = {"done": word, "name": obj.name, "on": wanted}
         calls: List[PlannedCall] = [(obj.definition.part, Enable(obj.name, wanted), None)] if obj.on != wanted else []
-        write = delete("switches", "name = ?", obj.name) if on is None else insert("switches", None, obj.name, int(on))
+        write = delete("switches", "name = ?", obj.name) if on is None else insert("switches", None, obj.name, on)
         return Plan(calls, [write], [partial(checks.apply_switch, obj, on), partial(self._log, f"asked: {word} {obj.name}")])
 
     def _plan_result(self, members: Members, request: Request) -> Plan:
         obj = self._find_object(members, is_called=False)
-        code, output = members.get("code"), members.get("output", "")
-        if isinstance(code, bool) or not isinstance(code, int) or not 0 <= code <= 3:
-            raise RequestFault(f"code has to be a number from 0 to 3, not {code!r}")
-        if not isinstance(output, str):
-            raise RequestFault("output has to be a text")
+        require("code" in members, f"code has to be {CODE.words}, not None", RequestFault)
+        code, output = members["code"], members.get("output", "")
         if self._passive.count + self._results >= MOST_WAITING:
             raise AskAgain(f"{MOST_WAITING} results wait to be reported")
         self._results += 1
@@ -213,12 +202,44 @@ class Requests:
         log = [partial(self._log, f"asked: result {obj.name} {code}")] if self._scheduling.site.options.log_passive else []
         return Plan(writes=[insert("passive", *result)], then=[note, partial(self._passive.add, result), *log])
 
+    def _plan_remark(self, members: Members, request: Request) -> Plan:
+        """A remark, unless there are too many. Its number may be one that isn't used."""
+        table, is_of_site = self._scheduling.remarks, members["do"] == "mute" and members.get("name") == ""
+        obj = None if is_of_site else self._find_object(members, is_called=False)
+        require(len(table.remarks) < MOST_REMARKS, f"there are {MOST_REMARKS} remarks: remove some", RequestFault)
+        remark = new_remark(members, table.next_id(), obj, self._clock.wall())
+        request.answer = {"done": members["do"], "name": remark.name, "id": remark.id}
+        self._remarks[remark.id] = remark
+        log = partial(self._log, f"asked: {members['do']} {remark.name or 'the site'} ({remark.id}) by {remark.author}: {first_line(remark.text)}")
+        return Plan(writes=[store_new_remark(remark)], then=[log, partial(table.put, remark)])
+
+    def _plan_remove(self, members: Members, request: Request) -> Plan:
+        current: Dict[int, Optional[Remark]] = {**self._scheduling.remarks.remarks, **self._remarks}
+        remarks = chosen_remarks(members, [each for each in current.values() if each is not None])
+        if not remarks and members.get("name") != "":
+            self._find_object(members, is_called=False)
+        request.answer = {"done": "remove", "ids": [each.id for each in remarks]}
+        self._remarks.update({each.id: each.ended() for each in remarks})
+        log = [partial(self._log, f"asked: remove {each.kind} {each.id} of {each.name or 'the site'}") for each in remarks]
+        return Plan(writes=[end_remark(each) for each in remarks], then=[*log, *(partial(self._scheduling.remarks.remove, each) for each in remarks)])
+
+    def _plan_refused(self, members: Members, request: Request) -> Plan:
+        text, request.answer = plain_text(str(members.get("text"))), {"done": "refused"}
+        return Plan(then=[partial(self._actions.count_one, "commands_refused"), partial(self._log, f"refused: {text}")])
+
     def _plan_notify_test(self, members: Members, request: Request) -> Plan:
         if not self._scheduling.has_command:
             raise RequestFault("no command for changes is given: start the monitor with --on-change")
         request.answer = {"done": "notify-test"}
         document = test_document(self._clock.wall(), self._clock.moment())
         return Plan(writes=[store_document(document, self._clock.moment())], then=[partial(self._log, "asked: notify-test")])
+
+    def _plan_spooled(self, members: Members, request: Request) -> Plan:
+        call, missed, spooled = members.get("call", -1), members.get("missed"), self._store.spooled
+        if not isinstance(missed, (int, float)) or spooled is None or not spooled <= call <= self._store.last_call:
+            raise RequestFault("call has to be the number of a stored call, and the monitor has to have a spool of performance data")
+        request.answer, figures = {"done": "spooled"}, {"spooled": float(call), "spooled_at": self._clock.wall(), "unspooled": float(missed)}
+        return Plan(writes=[store_figures(figures)], then=[partial(self._actions.note, figures), partial(setattr, self._store, "spooled", call)])
 
     def _save_now(self, request: Request) -> None:
         try:
@@ -227,6 +248,30 @@ class Requests:
         except (NotStored, ConversationEnded, MonitorFault) as fault:
             request.answer = {"error": str(fault), "again": True}
 
+    def _plan_new_database(self, members: Members, request: Request) -> Plan:
+        """It is made at once, since nothing can be stored without it."""
+        with contextlib.suppress(NotStored):
+            self._store.file.test()
+            require(self._actions.signs()["is_stuck"], f"{self._store.path} is as the monitor left it: nothing has to be done", RequestFault)
+        try:
+            self._actions.renew()
+        except (NotStored, ConversationEnded) as fault:
+            raise AskAgain(str(fault)) from None
+        self._log("asked: new-database")
+        request.answer = {"done": "new-database"}
+        return Plan()
+
+    def rows(self) -> List[Write]:
+        """The rows of this and of those that requests change."""
+        switches = [insert("switches", None, name, on) for name, on in self._checks.operator_switches.items()]
+        return [*switches, *self._passive.rows(), *(store_request(*answered) for answered in self._numbers.items())]
+
     def _plan_stop(self, members: Members, request: Request) -> Plan:
         request.answer = {"done": "stop"}
         return Plan(then=[self._actions.stop, partial(self._log, "asked: stop")])
+
+
+def test_document(wall: float, moment: int) -> str:
+    """A change that nobody has to act on, with a mark."""
+    change = StoredChange(0, wall, "nagsched;notify-test", "CRITICAL", "HARD", 1, False, "this is a test: nothing is wrong")
+    return change.document(None, f"test-{moment}", test=True)

@@ -1,1 +1,0 @@
-"""Requests to a monitor: through its socket, and through Nagios's pipe."""

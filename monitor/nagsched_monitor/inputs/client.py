@@ -2,15 +2,12 @@
 import os
 import pathlib
 import socket
-import time
 from typing import List, Sequence
 
-from ..faults import MonitorFault
-from ..system.users import owner_advice
+from ..faults import MonitorFault, trouble_text
+from ..system.poller import keep_trying
 
 NAME = "monitor.socket"
-# The pause before the next try to connect, in seconds.
-RETRY = 0.02
 
 
 def short_path(path: pathlib.Path) -> str:
@@ -23,25 +20,13 @@ def send_request(folder: pathlib.Path, request: bytes, seconds: float = 30) -> b
     return b"".join(send_requests(folder, [request], seconds))
 
 
-def connect(connection: socket.socket, path: str, seconds: float) -> None:
-    """Connects to a monitor. While too many clients wait for it, the connection is tried again."""
-    connection.settimeout(seconds)
-    end = time.monotonic() + seconds
-    while True:
-        try:
-            return connection.connect(path)
-        except BlockingIOError:
-            if time.monotonic() >= end:
-                raise
-            time.sleep(RETRY)
-
-
 def send_requests(folder: pathlib.Path, requests: Sequence[bytes], seconds: float = 30) -> List[bytes]:
     """The answers to requests that are made together. If the monitor ends meanwhile, only those that came before, whose requests were obeyed."""
     answers: List[bytes] = []
     try:
         with socket.socket(socket.AF_UNIX, socket.SOCK_STREAM) as connection, connection.makefile("rb") as lines:
-            connect(connection, short_path(folder / NAME), seconds)
+            connection.settimeout(seconds)
+            keep_trying(lambda: connection.connect(short_path(folder / NAME)), seconds)  # too many clients may wait
             connection.sendall(b"".join(request + b"\n" for request in requests))
             while len(answers) < len(requests) and (line := lines.readline()).endswith(b"\n"):
                 answers.append(line)
@@ -49,6 +34,5 @@ def send_requests(folder: pathlib.Path, requests: Sequence[bytes], seconds: floa
         raise MonitorFault(f"no monitor runs on {folder}: start it, or name the folder of a site whose monitor runs") from None
     except OSError as error:
         if not answers:
-            advice = owner_advice(folder / NAME) if isinstance(error, PermissionError) else ""
-            raise MonitorFault(f"the monitor of {folder} doesn't answer: {error.strerror or error}{advice}") from None
+            raise MonitorFault(f"the monitor of {folder} doesn't answer: {trouble_text(error, folder / NAME)}") from None
     return answers

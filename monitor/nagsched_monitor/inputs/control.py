@@ -1,19 +1,17 @@
 """The socket in the folder of a site, which takes requests for its monitor: lines of JSON, each answered by one line.
 
 No client holds up the monitor or another client. A limited number of its lines is passed on in one turn, and answers that it doesn't read wait, up to a
-limit.
-"""
+limit."""
 import json
-import os
 import pathlib
 import socket
 import time
 from dataclasses import dataclass, field
 from functools import partial
-from typing import Any, Callable, List, Mapping, Optional, Sequence
+from typing import Any, Callable, List, Mapping, Optional
 
 from ..core.requests import Request
-from ..faults import MonitorFault
+from ..faults import MonitorFault, raising
 from ..system.poller import FilePoller, write_ready
 from .client import NAME, short_path
 
@@ -54,11 +52,9 @@ class ControlSocket:
         self._path = folder / NAME
         self._path.unlink(missing_ok=True)
         self._socket = socket.socket(socket.AF_UNIX, socket.SOCK_STREAM)
-        try:
+        with raising(MonitorFault, self._path):
             self._socket.bind(short_path(self._path))
             self._path.chmod(0o600)  # nobody can connect before it listens
-        except OSError as error:
-            raise MonitorFault(f"{self._path}: {error.strerror or error}") from None
         self._socket.listen(socket.SOMAXCONN)
         self._socket.setblocking(False)
         self._clients: List[Client] = []
@@ -86,9 +82,7 @@ class ControlSocket:
             return  # earlier lines have their turn first
         try:
             data = client.connection.recv(READ_BYTES)
-        except BlockingIOError:
-            return
-        except OSError:
+        except ConnectionError:
             data = b""  # the client has gone
         client.last_line_at = time.monotonic()
         client.unread += data
@@ -129,7 +123,6 @@ class ControlSocket:
         client.unsent += json.dumps(answer, ensure_ascii=False).encode(errors="replace") + b"\n"
 
     def _send(self, client: Client) -> None:
-        """Sends as much as its reader accepts now."""
         try:
             write_ready(client.connection.fileno(), client.unsent)
         except OSError:
@@ -142,7 +135,6 @@ class ControlSocket:
         client.connection.close()
 
     def close(self) -> None:
-        """Sends the remaining answers, and closes all connections."""
         for client in self._clients:
             self._send(client)
             self._drop_client(client)

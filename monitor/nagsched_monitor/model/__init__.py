@@ -1,1 +1,0 @@
-"""The types that all packages share: objects, their states and runs, calls and answers, jobs, moments, texts."""

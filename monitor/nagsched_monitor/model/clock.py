@@ -1,22 +1,15 @@
 """Moments, for the scheduler, and the wall clock, for people."""
 import time
-from typing import Protocol
 
 MILLISECOND = 1_000_000
 # The last time that has a date here, at the beginning of the year 9999, in seconds since 1970.
 LAST_TIME = 253_370_764_800
 
 
-class Clock(Protocol):
-    """A clock, as the monitor uses it."""
-
-    def moment(self) -> int: ...  # in milliseconds, which never go back
-    def wall(self) -> float: ...  # in seconds since 1970
-
-
-class SystemClock:
-    """The machine's clock. Moments begin at the wall clock, or at the last stored moment if that is later. They continue by the time since
-    the machine was started, also while it sleeps. So setting the clock neither stops checks nor hurries them."""
+class Clock:
+    """The machine's clock: moments in milliseconds, which never go back, and the wall clock in seconds since 1970. Moments begin at the wall clock,
+    or at the last stored moment if that is later. They continue by the time since the machine was started, also while it sleeps. So setting the clock
+    neither stops checks nor hurries them."""
 
     def __init__(self, last_kept: int = 0) -> None:
         first = max(time.time_ns() // MILLISECOND, last_kept)

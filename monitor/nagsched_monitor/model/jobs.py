@@ -3,6 +3,7 @@ import functools
 import json
 from typing import Any, Dict, NamedTuple, Optional, Sequence, Tuple, Union
 
+from ..faults import require
 from .text import plain_text
 
 ENDS = ("exited", "signal", "limit", "failed")
@@ -15,8 +16,7 @@ class Job(NamedTuple):
     run: int
     arguments: Sequence[str]
     limit: float
-    # The runner elsewhere that runs it; None for a runner of this machine.
-    runner: Optional[str] = None
+    runner: Optional[str] = None  # the runner elsewhere that runs it; None for a runner of this machine
 
 
 class JobFinished(NamedTuple):
@@ -27,8 +27,7 @@ class JobFinished(NamedTuple):
     code: int
     output: str
     stderr: str = ""
-    # Whether it was killed and hasn't ended: a `StuckJobEnded` comes when it has.
-    is_stuck: bool = False
+    is_stuck: bool = False  # whether it was killed and hasn't ended: a `StuckJobEnded` comes when it has
 
 
 class JobLost(NamedTuple):
@@ -36,8 +35,7 @@ class JobLost(NamedTuple):
 
     job: Job
     why: str = "its runner ended"
-    # Whether this machine lacks what the job needs: files, processes or memory.
-    is_local: bool = False
+    is_local: bool = False  # whether this machine lacks what the job needs: files, processes or memory
 
 
 class StuckJobEnded(NamedTuple):
@@ -56,7 +54,6 @@ def job_members(arguments: Tuple[str, ...], limit: float) -> bytes:
 
 
 def event_members(event: Union[JobFinished, JobLost]) -> Dict[str, Any]:
-    """The members of a result, after its number."""
     if isinstance(event, JobLost):
         return {"lost": event.why}
     return {"end": event.end, "code": event.code, "output": event.output, "stderr": event.stderr}
@@ -67,8 +64,7 @@ def read_event(job: Job, members: Dict[str, Any]) -> Union[JobFinished, JobLost]
     if "lost" in members:
         return JobLost(job, plain_text(read_text(members, "lost")), job.runner is None)
     end, code, is_stuck = members.get("end"), members.get("code"), members.get("stuck", False)
-    if end not in ENDS:
-        raise ValueError(f"end has to be one of {', '.join(ENDS)}")
+    require(end in ENDS, f"end has to be one of {', '.join(ENDS)}", ValueError)
     if isinstance(code, bool) or not isinstance(code, int) or not 0 <= code <= 255:
         raise ValueError("code has to be a number from 0 to 255")
     return JobFinished(job, str(end), code, read_text(members, "output"), read_text(members, "stderr"), is_stuck is True)
@@ -84,9 +80,7 @@ def read_text(members: Dict[str, Any], name: str) -> str:
 def read_line(line: bytes) -> Tuple[int, Dict[str, Any]]:
     """The number of the job in a runner's line, -1 if it says an error, and its members. Raises `ValueError` or `RecursionError` if it can't be read."""
     members = json.loads(line.decode())
-    if not isinstance(members, dict):
-        raise ValueError("it has to be an object")
+    require(isinstance(members, dict), "it has to be an object", ValueError)
     number = -1 if "error" in members else members.get("job")
-    if isinstance(number, bool) or not isinstance(number, int):
-        raise ValueError("it has no number of a job")
+    require(not isinstance(number, bool) and isinstance(number, int), "it has no number of a job", ValueError)
     return number, members

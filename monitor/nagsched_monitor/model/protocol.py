@@ -7,6 +7,7 @@ from ..faults import ConversationEnded
 # The greatest moment and run number of a scheduler, and the greatest code of a plugin.
 GREATEST = 2**60
 GREATEST_CODE = 3
+NO_PROBLEM = ("PENDING", "OK", "UP")  # the states that aren't problems
 
 Take = NamedTuple("Take", [("now", int)])
 Report = NamedTuple("Report", [("name", str), ("run", int), ("code", int)])
@@ -35,8 +36,6 @@ def read_call(line: str) -> Call:
     return call
 
 
-# ---- answers
-
 Taken = NamedTuple("Taken", [("run", int), ("name", str)])
 PutOff = NamedTuple("PutOff", [("next", Optional[int]), ("name", str)])
 Freed = NamedTuple("Freed", [("next", int), ("name", str)])
@@ -55,7 +54,20 @@ class Standing(NamedTuple):
     name: str
 
     def is_problem(self) -> bool:
-        return self.state not in ("PENDING", "OK", "UP")
+        return self.state not in NO_PROBLEM
+
+    def is_change(self, before: Optional["Standing"]) -> bool:
+        """Whether something is printed: another state, a problem that became hard, flapping that begins or ends."""
+        if before is None or before.state == "PENDING":
+            return self.is_problem() or self.flapping
+        became_hard = before.kind == "SOFT" and self.kind == "HARD" and self.is_problem()
+        return before.state != self.state or before.flapping != self.flapping or became_hard
+
+    def is_important(self, before: Optional["Standing"]) -> bool:
+        """Whether the command is run for it: hard changes and flapping. A recovery counts if the problem was hard."""
+        was_hard = before is None or before.kind == "HARD"
+        flapping_changed = (before is not None and before.flapping) != self.flapping
+        return self.kind == "HARD" and (self.is_problem() or was_hard) or flapping_changed
 
 
 Answer = Union[Taken, PutOff, Idle, Standing, Freed, Done, Refused]

@@ -1,1 +1,0 @@
-"""The outputs of a monitor: changes, alerts, pages, figures, Nagios's status file, the service manager."""

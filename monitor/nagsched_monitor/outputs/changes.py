@@ -8,11 +8,11 @@ import subprocess
 import tempfile
 from typing import Callable, Dict, Iterable, List, NamedTuple, Optional, Set, Tuple
 
-from ..faults import NotStored
+from ..faults import NotStored, trouble_text
 from ..model.clock import Clock
-from ..model.object_state import ObjectState
+from ..model.objects import ObjectState
 from ..model.text import first_line, plain_text
-from ..scheduler.changes import change_document
+from ..store.counters import Counters
 from ..store.rows import StoredChange
 from ..store.store import Store, delete, insert, store_document
 
@@ -25,25 +25,22 @@ MOST_AGE = 86_400_000
 AT_ONCE = 100
 MOST_REFUSALS = 10
 MOST_LINES = 20
-# The setting with the command that was told what is wrong.
-TOLD = "on_change"
+TOLD = "on_change"  # the setting with the command that was told what is wrong
 
 
 def change_line(change: StoredChange, zone: Optional[datetime.tzinfo]) -> str:
-    """A change as a line of the log, with date and zone."""
     when = datetime.datetime.fromtimestamp(change.time, zone).astimezone(zone).isoformat(sep=" ", timespec="seconds")
     flapping = " FLAPPING" if change.flapping else ""
     return f"{when} {change.name} is {change.state} {change.kind} {change.attempt}{flapping}: {first_line(change.words)}"
 
 
 class Waiting(NamedTuple):
-    """A change that the command has to take: its row, its `id`, its object, its document, and the moment since which it waits."""
+    """A change that the command has to take: its row, its `id`, its object and its document."""
 
     row: int
     id: str
     object: str
     document: str
-    moment: int
 
 
 class Notifier:
@@ -52,8 +49,8 @@ class Notifier:
     It takes all of them by the exit status 0, and single ones by printing the `id` of each. If it takes none, it gets half as many, down to one. An object
     whose first change it refuses then waits until it has taken others. If it takes others and refuses that one again and again, that one is set aside."""
 
-    def __init__(self, command: Optional[str], store: Store, log: Callable[[str], None], clock: Clock, count_aside: Callable[[], None]) -> None:
-        self.command, self._store, self._log, self._clock, self._count_aside = command, store, log, clock, count_aside
+    def __init__(self, command: Optional[str], store: Store, log: Callable[[str], None], clock: Clock, counters: Counters) -> None:
+        self.command, self._store, self._log, self._clock, self._counters = command, store, log, clock, counters
         self._process: Optional["subprocess.Popen[bytes]"] = None
         # The changes that the command got, its output, and when it is killed.
         self._passed: List[Waiting] = []
@@ -72,12 +69,7 @@ class Notifier:
         self._begun_at = clock.moment()
         self._away = self._begun_at - (store.last_moment() or self._begun_at)
 
-    def is_busy(self) -> bool:
-        """Whether there is more to do soon."""
-        return self._process is not None
-
     def tell_new_command(self, objects: Iterable[ObjectState]) -> None:
-        """Gives a command that is new what is hard now."""
         if self.command is None or self._store.setting(TOLD) == self.command:
             return
         moment, writes = self._clock.moment(), [insert("settings", None, TOLD, self.command)]
@@ -86,20 +78,19 @@ class Notifier:
             if its is not None and (its.is_problem() and its.kind == "HARD" or its.flapping):
                 since = obj.history.hard_since or obj.history.since or self._clock.wall()
                 change = StoredChange(0, since, obj.name, its.state, its.kind, its.attempt, its.flapping, obj.output)
-                writes.append(store_document(change_document(change, None, f"now-{moment}-{len(writes)}"), moment))
+                writes.append(store_document(change.document(None, f"now-{moment}-{len(writes)}"), moment))
         self._store.write(*writes)
 
-    def work(self) -> None:
-        """Looks after the running command, and starts it for waiting changes."""
+    def work(self) -> bool:
+        """Looks after the running command, and starts it for waiting changes. Returns whether it runs."""
         if self._process is not None:
             self._check_command(self._process)
         if self.command is not None and self._process is None and self._clock.moment() >= self._not_before:
             try:
                 self._start_command(self.command)
             except (OSError, NotStored) as error:  # there is no room for a file or a process now, or the database can't be read or written
-                self._retry_later(f"the command for changes waits: {error}")
-
-    # ---- passing changes
+                self._retry_later(f"the command for changes waits: {trouble_text(error)}")
+        return self._process is not None
 
     def _start_command(self, command: str) -> None:
         self._drop_taken()
@@ -121,7 +112,7 @@ class Notifier:
         for row, document, moment in self._store.outbox():
             members, since = json.loads(document), now if moment is None else moment
             age = now - since - (self._away if since < self._begun_at else 0)
-            (old if age > MOST_AGE else waiting).append(Waiting(row, members.get("id", ""), members["name"], document, since))
+            (old if age > MOST_AGE else waiting).append(Waiting(row, members.get("id", ""), members["name"], document))
         for each in old:
             self._log(f"a change is dropped, since the command didn't take it within {MOST_AGE / 3_600_000:g} hours: {each.document}")
         if old:
@@ -143,8 +134,6 @@ class Notifier:
         if why != self._trouble:
             self._log(f"{why}; it is tried again")
         self._trouble = why
-
-    # ---- its end
 
     def _check_command(self, process: "subprocess.Popen[bytes]") -> None:
         status = process.poll()
@@ -201,7 +190,7 @@ class Notifier:
         if count + 1 >= MOST_REFUSALS and self._taken_count > before:
             self._store.write(insert("not_taken", None, refused.document), delete("outbox", "id = ?", refused.row))
             self._log(f"a change is set aside, since the command refused it {MOST_REFUSALS} times and took others: {refused.document}")
-            self._count_aside()
+            self._counters.count("changes_aside")
             self._held.remove(refused.object)
             del self._refusals[refused.id]
 

@@ -1,206 +1,108 @@
-"""The pages of a site, as HTML. Names and texts of a site are escaped, and control characters are replaced."""
-import base64
+"""The pages of a site: its problems, all its hosts and services, and one of them with its last day."""
 import collections
-import datetime
-import hashlib
 import html
 import json
-import pathlib
+import re
 import urllib.parse
-from typing import Collection, List, Mapping, Optional, Sequence, Tuple
+from typing import Dict, List, Mapping, Sequence, Set, Tuple
 
-from ..model.clock import LAST_TIME
-from ..model.performance import performance_values, text_of
-from ..model.text import CONTROLS, first_line
-from ..site.groups_file import Groups
+from ..model.remarks import Remark
+from ..model.text import first_line, number_text, performance_values, text_of
+from ..site.people_files import NO_GROUPS, labels_of
 from ..store.rows import StoredChange, StoredStanding
+from .html_parts import CLASSES, View, badge, duration, html_text, link, look_of, section, table, tiles
 from .status_query import DAY, ObjectStatus, SiteStatus
 
-# How often a page renews itself, in seconds.
-RENEW_EVERY = 15
-COLUMNS = ("State", "Object", "Attempt", "Since", "Next check", "Last words")
+# The most rows of problems that nobody takes care of, of others, of groups, and on a page of all objects.
+MOST_PROBLEMS, MOST_HELD, MOST_GROUPS, MOST_ROWS = 100, 25, 40, 100
+LATE_SPOOL = 120  # the age of the last performance data that is told, in seconds
+PROBLEMS, ACKNOWLEDGED, DOWNTIME = PARTS = ("Unhandled problems", "Acknowledged", "In downtime")
+CHOICES = ("all", "problems", *(part.lower() for part in PARTS), "flapping", "running", "checks off", *CLASSES, "PENDING")
 # The picture of a day: the heights of hard and soft states and of unknown ones, and the place of their lower edge.
 HIGH, LOW, THIN, BOTTOM = 44, 24, 6, 52
-# The colours are those of Okabe and Ito, which colour-blind people can distinguish. Hard problems are filled, and soft ones have a dashed edge.
-STYLE = pathlib.Path(__file__).with_name("page.css").read_text(encoding="utf-8")
-DIGEST = base64.b64encode(hashlib.sha256(STYLE.encode()).digest()).decode()
-# These headers keep everything out of a page that isn't part of it.
-HEADERS = {
-    "Content-Security-Policy": f"default-src 'none'; style-src 'sha256-{DIGEST}'; base-uri 'none'; form-action 'none'; frame-ancestors 'none'",
-    "Cache-Control": "no-store",
-    "X-Content-Type-Options": "nosniff",
-    "Referrer-Policy": "no-referrer",
-}
-# state: the class of its colour
-CLASSES = {"OK": "up", "UP": "up", "WARNING": "warn", "CRITICAL": "down", "DOWN": "down", "UNKNOWN": "unknown", "UNREACHABLE": "far"}
+MOST_SERVICES = 100  # the most services of a host that are shown
 
 
-def duration(seconds: float) -> str:
-    """A duration, in two units at most."""
-    left = max(0, round(seconds))
-    minutes, hours = left // 60, left // 3600
-    if hours:
-        return f"{hours // 24} d {hours % 24} h" if hours >= 24 else f"{hours} h {minutes % 60} min"
-    return f"{minutes} min" if minutes else f"{left} s"
+def part_of(held: Sequence[Remark]) -> str:
+    """The part of the page in which a problem is, by what holds it."""
+    kinds = {each.kind for each in held}
+    return DOWNTIME if "downtime" in kinds else ACKNOWLEDGED if "acknowledgement" in kinds else PROBLEMS
 
 
-class Times:
-    """Times of the wall clock in the zone of a site, as seen from one moment."""
-
-    def __init__(self, now: float, zone: Optional[datetime.tzinfo]) -> None:
-        self.now, self._zone = now, zone
-        self.today = datetime.datetime.fromtimestamp(now, zone).astimezone(zone)
-
-    def short(self, time: float) -> str:
-        """The time of day, with the date if it isn't today."""
-        if not 0 <= time <= LAST_TIME:
-            return "never" if time > 0 else "long ago"
-        when = datetime.datetime.fromtimestamp(int(time), self._zone)
-        is_today = when.date() == self.today.date()
-        return when.strftime("%H:%M:%S" if is_today else "%d %b %H:%M" if when.year == self.today.year else "%d %b %Y %H:%M")
-
-    def ago(self, time: Optional[float]) -> str:
-        """A time, and the duration since then."""
-        return "" if time is None else f"{self.short(time)} <i>{duration(self.now - time)}</i>"
+def choices_of(it: StoredStanding, held: Sequence[Remark]) -> Set[str]:
+    """The choices with which the page of all objects shows an object, by what holds it."""
+    is_wrong = it.is_problem()
+    marks = {"problems": is_wrong, part_of(held).lower(): is_wrong, "flapping": it.flapping, "running": it.out_since is not None, "checks off": not it.is_on}
+    return {"", "all", str(it.state), *(mark for mark, is_so in marks.items() if is_so)}
 
 
-# ---- pieces
-
-
-def look_of(state: Optional[str], kind: Optional[str]) -> Tuple[str, str]:
-    """The class of a state's colour, and whether it is a soft or a hard problem."""
-    name = CLASSES.get(state or "", "none")
-    return name, "" if name in ("up", "none") else "soft" if kind == "SOFT" else "hard"
-
-
-def html_text(given: str) -> str:
-    """A text as HTML, without control characters."""
-    return html.escape(CONTROLS.sub("\ufffd", given))
-
-
-def badge(state: Optional[str], kind: Optional[str], flapping: bool = False) -> str:
-    """A state by its word and colour, a soft problem by its edge, and the words soft, hard and FLAPPING."""
-    name, word = look_of(state, kind)
-    coloured = f'<b class="s {name}{" soft" if word == "soft" else ""}">{html_text(str(state))}</b>'
-    return f"{coloured} {word}".rstrip() + (" FLAPPING" if flapping else "")
-
-
-def link(address: str, name: str) -> str:
-    """A link to the object or group of this name."""
-    return f'<a href="{address}={urllib.parse.quote(name, safe="")}">{html_text(name)}</a>'
-
-
-def next_check_text(it: StoredStanding, times: Times) -> str:
-    """The time of an object's next check, or why it has no next check."""
-    if it.out_since is not None:
-        return f"runs since {times.ago(it.out_since)}"
-    if not it.is_on or it.next_check is None:
-        return "none" if it.is_on else "off"
-    if it.next_check > times.now:
-        return times.short(it.next_check)
-    # A time of long ago asks for a check at once.
-    return "due" if times.now - it.next_check > 365 * DAY else f"due since {times.short(it.next_check)}"
-
-
-def object_row(it: StoredStanding, times: Times, since: Optional[float]) -> Tuple[str, ...]:
-    """The cells of an object's row, as HTML."""
-    attempt = "" if it.attempt is None else str(it.attempt)
-    state, words = badge(it.state, it.kind, it.flapping), html_text(first_line(text_of(it.words)))
-    return state, link("/object?name", it.name), attempt, times.ago(since), next_check_text(it, times), words
-
-
-def table(rows: Sequence[Sequence[str]], empty: str, heads: Sequence[str] = COLUMNS, name: str = "o") -> str:
-    """A table, or a sentence if it has no rows."""
-    if not rows:
-        return f"<p>{empty}</p>"
-    head = "".join(f'<th scope="col">{each}</th>' for each in heads)
-    lines = "\n".join(f"<tr><td>{'</td><td>'.join(row)}</td></tr>" for row in rows)
-    return f'<table class="{name}"><thead><tr>{head}</tr></thead><tbody>\n{lines}\n</tbody></table>'
-
-
-def tiles(pairs: Sequence[Tuple[str, str]]) -> str:
-    return "<dl>" + "".join(f"<div><dt>{name}</dt><dd>{value}</dd></div>" for name, value in pairs) + "</dl>"
-
-
-def html_page(title: str, site: str, times: Times, body: Sequence[str]) -> str:
-    """A page, with its head."""
-    now, lines = times.today.isoformat(sep=" ", timespec="seconds"), "\n".join(body)
-    return f"""<!DOCTYPE html>
-<html lang="en"><head><meta charset="utf-8"><title>{html_text(title)}</title>
-<meta name="viewport" content="width=device-width, initial-scale=1"><meta http-equiv="refresh" content="{RENEW_EVERY}">
-<style>{STYLE}</style></head><body>
-<header><h1><a href="/">{html_text(site)}</a></h1><span class="n">{now}, renewed every {RENEW_EVERY} seconds</span></header>
-{lines}
-</body></html>
-"""
-
-
-# ---- the page of a site
-
-
-def figures_of(status: SiteStatus) -> str:
-    """The number of objects in each state, and the monitor's delay. A line before them says so if they are old, since the monitor isn't working."""
-    silent = status.silent_seconds()
-    since = f"for {duration(silent or 0)}" if "written_at" in status.figures else "yet"
-    overdue, promised = status.overdue()
-    words = f"{overdue} of {promised} objects have no result in time; the latest is overdue by {duration(status.figures.get('overdue_by', 0.0))}."
-    not_checked = f'<p class="silent">{words}</p>' if overdue else ""
-    silence = "" if silent is None else f'<p class="silent">The monitor has written nothing {since}: what is shown is how things stood then.</p>'
-    counts = collections.Counter(str(it.state) for it in status.objects)
-    order = [*CLASSES, *sorted(set(counts) - set(CLASSES))]
-    states = [(f'<b class="s {look_of(state, None)[0]}">{html_text(state)}</b>', str(counts[state])) for state in order if state in counts]
-    rate, late, latest = (status.figures.get(name, 0.0) for name in ("checks_a_second", "latest_start_lately", "latest_start"))
-    keeps_up = [
-        ("checks a second", f"{rate:.2f}"),
-        ("latest start after its time", f"{late:.2f} s <i>lately, {latest:.2f} s at most</i>"),
-        ("out", str(len(status.running_checks()))),
-        ("due", str(status.due_count())),
+def own_state(status: SiteStatus) -> List[str]:
+    """What is wrong with the monitor itself, and how it keeps pace."""
+    figures, silent, (overdue, promised) = status.figures, status.silent_seconds(), status.overdue()
+    spooled_at, since = figures.get("spooled_at", 0.0), f"for {duration(silent or 0)}" if "written_at" in figures else "yet"
+    complaints = [
+        (silent is not None, f"The monitor has written nothing {since}: what is shown is how things stood then."),
+        (overdue, f"{overdue} of {promised} objects have no result in time; the latest is overdue by {duration(figures.get('overdue_by', 0.0))}."),
+        (spooled_at and status.now - spooled_at > LATE_SPOOL,
+         f"Performance data was last written {duration(status.now - spooled_at)} ago: the monitor's log says why."),
     ]
-    return f"{silence}{not_checked}\n{tiles(states)}{tiles(keeps_up)}"
+    rate, late, latest = (figures.get(name, 0.0) for name in ("checks_a_second", "latest_start_lately", "latest_start"))
+    return section("Monitor", *(f'<p class="alarm">{text}</p>' for is_so, text in complaints if is_so), tiles([
+        ("Checks per second", f"{rate:.2f}"), ("Check latency", f"{late:.2f} s <i>{latest:.2f} s at most</i>"),
+        ("Running checks", link("/all", str(status.running_count()), show="running")), ("Waiting checks", str(status.due_count())),
+    ]))
 
 
-def calm_words(status: SiteStatus) -> str:
-    """The sentence in place of problems, if there are none: most objects have to be known, and none overdue."""
-    pending = sum(it.state in (None, "PENDING") for it in status.objects)
-    if status.overdue()[0] or status.silent_seconds() is not None:
-        return "No problem is known, and results are missing."
-    return f"No problem is known; {pending} of {len(status.objects)} objects were never checked." if 2 * pending > len(status.objects) else "Nothing is wrong."
+def groups_of(view: View, objects: Sequence[StoredStanding]) -> List[str]:
+    """The numbers of problems and objects of each group. If there are too many groups, those with the most problems."""
+    members = [(group, it.is_problem()) for it in objects for group in view.group_names(it.name)]
+    found, wrong = collections.Counter(group for group, _ in members), collections.Counter(group for group, is_wrong in members if is_wrong)
+    shown = sorted(sorted(found, key=lambda group: (-wrong[group], group))[:MOST_GROUPS])
+    rows = [(link("/", group, group=group), str(wrong[group]), link("/all", str(found[group]), group=group)) for group in shown]
+    more = f"{len(shown)} of " if len(shown) < len(found) else ""
+    return section(f"Groups: {more}{len(found)}", table(rows, ("Group", "Problems", "Objects"), kind="g"))
 
 
-def groups_of(objects: Sequence[StoredStanding], group_names: Mapping[str, Collection[str]]) -> str:
-    """A line for each host and service group, by the groups of each object: the number of its objects, and of those with problems."""
-    members = [(group, it) for it in objects for group in group_names.get(it.name, ())]
-    counts = collections.Counter(group for group, _ in members)
-    wrong = collections.Counter(group for group, it in members if it.is_problem())
-    rows = [(link("/?group", group), str(wrong[group]), str(count)) for group, count in sorted(counts.items())]
-    return f"<h2>Groups: {len(rows)}</h2>{table(rows, '', ('Group', 'Wrong', 'Objects'), 'g')}" if rows else ""
-
-
-def site_page(status: SiteStatus, groups: Mapping[str, Groups], group: str, site: str, zone: Optional[datetime.tzinfo]) -> str:
-    """Problems, running checks, and all hosts and services; those of a group, if one is named."""
-    times = Times(status.now, zone)
-    group_names = {name: {*its.names.get("host_groups", ()), *its.names.get("service_groups", ())} for name, its in groups.items()}
+def problems_page(view: View, status: SiteStatus, group: str) -> str:
+    """The monitor's own state, counts, and problems: those that nobody takes care of, and others. Of a group, if one is named."""
     if group:
-        status = status._replace(objects=[it for it in status.objects if group in group_names.get(it.name, ())])
-    wrong, out = status.problems(), status.running_checks()
-    running = ", ".join(f"{link('/object?name', it.name)} <i>{duration(times.now - (it.out_since or 0))}</i>" for it in out)
-    hosts, services = ([object_row(it, times, it.since) for it in status.objects if it.is_host() == is_host] for is_host in (True, False))
-    body = [
-        f"<p>Group {html_text(group)}</p>" if group else "",
-        figures_of(status),
-        f"<h2>Wrong now: {len(wrong)}</h2>",
-        table([object_row(it, times, it.problem_since()) for it in wrong], calm_words(status)),
-        f"<h2>Out: {len(out)}</h2><p>{running}</p>" if out else "",
-        f"<h2>Hosts: {len(hosts)}</h2>",
-        table(hosts, "No hosts."),
-        f"<h2>Services: {len(services)}</h2>",
-        table(services, "No services."),
-        groups_of(status.objects, group_names),
-    ]
-    return html_page(f"{len(wrong)} wrong: {group or site}", site, times, body)
+        status = status._replace(objects=[it for it in status.objects if group in view.group_names(it.name)])
+    counts, held = collections.Counter(str(it.state) for it in status.objects), status.holding()
+    order = [state for state in [*CLASSES, *sorted(set(counts) - set(CLASSES))] if state in counts]
+    body = [*own_state(status), *section("Hosts and services", tiles([
+        (badge(state, None), link("/all", str(counts[state]), show=state, group=group)) for state in order]))]
+    parts: Dict[str, List[StoredStanding]] = {part: [] for part in PARTS}
+    for it in status.problems():
+        parts[part_of(held.get(it.name, ()))].append(it)
+    for part, objects in parts.items():
+        most = MOST_PROBLEMS if part == PROBLEMS else MOST_HELD
+        if objects or part == PROBLEMS:
+            rest = f"<p>{link('/all', f'All {len(objects)}', show=part.lower(), group=group)}</p>" if len(objects) > most else ""
+            body += section(f"{part}: {len(objects)}", view.rows(objects[:most], held, "No problem is known."), rest)
+    place = group or view.site
+    return view.page(f"{len(parts[PROBLEMS])} problems: {place}", [*body, *groups_of(view, status.objects)], f"Problems of {html_text(place)}", "/")
 
 
-# ---- the page of an object
+def all_page(view: View, status: SiteStatus, query: Mapping[str, str]) -> str:
+    """The hosts and services that fit a filter, a number of them at once."""
+    text, show, group = (query.get(name, "") for name in ("text", "show", "group"))
+    held = status.holding()
+    found = [it for it in status.objects if show in choices_of(it, held.get(it.name, ())) and text.lower() in view.searched_text(it.name)
+             and (not group or group in view.group_names(it.name))]
+    pages, digits = max(1, -(-len(found) // MOST_ROWS)), re.fullmatch("[0-9]{1,9}", query.get("page", ""))
+    number = min(pages, max(1, int(digits[0]))) if digits else 1
+    shown = found[(number - 1) * MOST_ROWS : number * MOST_ROWS]
+    others = [link("/all", word, text=text, show=show, group=group, page=str(place))
+              for place, word in ((number - 1, "Previous"), (number + 1, "Next")) if 0 < place <= pages]
+    options = "".join(f"<option{' selected' if each == show else ''}>{each}</option>" for each in CHOICES)
+    form = f"""<form action="/all" role="search"><label>Name or address <input name="text" type="search" value="{html.escape(text)}"></label>
+<label>Show <select name="show">{options}</select></label> <label>Group <input name="group" value="{html.escape(group)}"></label>
+<button>Search</button></form>"""
+    first = (number - 1) * MOST_ROWS + 1
+    return view.page(f"All objects: {view.site}", [
+        form, f"<p>{first} to {first + len(shown) - 1} of {len(found)}</p>" if shown else "", view.rows(shown, held, "No host or service is like this."),
+        f'<nav aria-label="More of them">{" ".join(others)}</nav>' if others else "",
+    ], "All hosts and services", "/all", is_renewed=False)
 
 
 def stretches(status: ObjectStatus) -> List[StoredChange]:
@@ -212,67 +114,90 @@ def stretches(status: ObjectStatus) -> List[StoredChange]:
     return found if found and found[0].time <= begin else [StoredChange(0, begin, it.name, "", "", 0, False, ""), *found]
 
 
-def day_chart(status: ObjectStatus, times: Times) -> str:
+def day_chart(status: ObjectStatus, view: View) -> str:
     """The day as a picture: time across, states by colour, hard ones high and soft ones low, and the words of each when pointed at.
 
-    Positions across are parts of its width, so that its texts keep their size on a narrow page. A legend of its states follows.
-    """
-    begin, day = times.now - DAY, stretches(status)
+    Positions across are parts of its width, so that its texts keep their size on a narrow page."""
+    begin, day = view.now - DAY, stretches(status)
     lines = ['<svg role="img" aria-label="The states of the last day">']
-    for it, end in zip(day, [*(each.time for each in day[1:]), times.now]):
+    for it, end in zip(day, [*(each.time for each in day[1:]), view.now]):
         left, right = (min(100.0, max(0.0, 100 * (time - begin) / DAY)) for time in (it.time, end))
-        name, word = look_of(it.state, it.kind)
-        height = THIN if not it.state else LOW if word == "soft" else HIGH
-        state = f"{it.state} {word}".rstrip() or "no change is known"
-        title = html_text(f"{times.short(it.time)} to {times.short(end)}: {state} {text_of(it.words)[:200]}")
+        name, is_soft = look_of(it.state, it.kind)
+        height = THIN if not it.state else LOW if is_soft else HIGH
+        state = f"{it.state}{' soft' if is_soft else ''}" if it.state else "no change is known"
+        title = html_text(f"{view.time(it.time)} to {view.time(end)}: {state} {text_of(it.words)[:200]}")
         place = f'x="{left:.3f}%" width="{max(0.1, right - left):.3f}%" y="{BOTTOM - height}" height="{height}"'
         lines.append(f'<rect class="{name}{"" if it.state else " thin"}" {place}><title>{title}</title></rect>')
     for quarter, anchor in enumerate(("start", "middle", "middle", "middle", "end")):
-        part, time = 25 * quarter, times.short(begin + DAY * quarter / 4)
+        part, time = 25 * quarter, view.time(begin + DAY * quarter / 4)
         without_seconds = time[:-3] if time.count(":") == 2 else time[-5:]
         lines.append(f'<line x1="{part}%" x2="{part}%" y1="{BOTTOM}" y2="{BOTTOM + 6}"></line>')
         lines.append(f'<text x="{part}%" y="{BOTTOM + 20}" text-anchor="{anchor}">{without_seconds}</text>')
-    states = sorted({(it.state, it.kind) for it in day if it.state})
-    names = list(dict.fromkeys(badge(state, kind) for state, kind in states))
-    names += ["a thin line where no change is known"] if not all(it.state for it in day) else []
-    legend = f"<p>{', '.join(names)}{'; soft ones are low' if any(kind == 'SOFT' for _, kind in states) else ''}</p>"
-    return "\n".join([*lines, "</svg>", legend])
+    return "\n".join([*lines, "</svg><p>Soft problems are low, and a thin line is where no change is known.</p>"])
 
 
 def silence_link(name: str, site: str, alertmanager: str) -> str:
     """A link to Alertmanager's form for a silence of a problem, by the labels that stay while it lasts."""
-    host, _, service = name.partition(";")
-    labels = {"site": site, "host": host, **({"service": service} if service else {})}
+    labels = {"site": site, **labels_of(name, {})}
     matchers = ",".join(f"{label}={json.dumps(value, ensure_ascii=False)}" for label, value in labels.items())
     return f'<p><a href="{html_text(alertmanager)}#/silences/new?filter={urllib.parse.quote(f"{{{matchers}}}", safe="")}">Silence it</a></p>'
 
 
-def object_page(status: ObjectStatus, groups: Groups, site: str, zone: Optional[datetime.tzinfo], alertmanager: str = "") -> str:
-    """One object, and its last day."""
-    times, it = Times(status.now, zone), status.standing
+def next_check_text(it: StoredStanding, view: View) -> str:
+    """The time of an object's next check, or why it has no next check."""
+    if it.out_since is not None:
+        return f"runs since {view.ago(it.out_since)}"
+    if not it.is_on or it.next_check is None:
+        return "none" if it.is_on else "off"
+    return view.time(it.next_check) if it.next_check > view.now else f"due since {view.time(it.next_check)}"
+
+
+def remark_text(its: Remark, view: View) -> str:
+    """What somebody said about a state."""
+    begins, end = view.time(its.starts_at if its.began_at is None else its.began_at), its.end()
+    until = "" if end is None else f" until {view.time(end)}"
+    return f"<p>{its.kind.capitalize()} since {begins}{until} by {html_text(its.author)}: {html_text(its.text)}</p>"
+
+
+def fact_pairs(view: View, name: str) -> List[Tuple[str, str]]:
+    """What people wrote about an object. Only an address of the web is a link."""
+    its = view.facts.get(name, {})
+    texts = [(word, html_text(its.get(member, ""))) for word, member in (("Alias", "alias"), ("Address", "address"), ("Notes", "notes"))]
+    return texts + [(word, f'<a href="{html_text(its[member])}">{html_text(its[member])}</a>' if re.match("https?://", its[member]) else html_text(its[member]))
+                    for word, member in (("More notes", "notes_url"), ("Actions", "action_url")) if member in its]
+
+
+def object_page(view: View, status: ObjectStatus, alertmanager: str = "") -> str:
+    it, groups = status.standing, view.groups.get(status.standing.name, NO_GROUPS)
+    host, _, service = it.name.partition(";")
     pairs = [
-        ("attempt", "none" if it.attempt is None else str(it.attempt)),
-        ("since", times.ago(it.since) or "never checked"),
-        ("hard since", times.ago(it.hard_since)),
-        ("last check", times.ago(it.last_check)),
-        ("next check", next_check_text(it, times)),
-        ("took", "" if it.took is None else f"{it.took:.3f} s"),
-        ("began late by", "" if it.late is None else f"{it.late:.3f} s"),
-        *((kind.replace("_", " "), html_text(", ".join(names))) for kind, names in groups.names.items()),
-        *((wish.replace("_", " "), html_text(value.strip(","))) for wish, value in groups.notifications.items()),
+        *(("Host", f"{link('/object', each.name, name=each.name)} {badge(each.state, each.kind, each.flapping)}") for each in status.others if service),
+        ("Attempt", view.attempt(it)),
+        ("Since", view.ago(it.since) or "never checked"),
+        ("Last hard change", view.ago(it.hard_since)),
+        ("Last check", view.ago(it.last_check)),
+        ("Next check", next_check_text(it, view)),
+        ("Check duration", "" if it.took is None else f"{it.took:.3f} s"),
+        ("Check latency", "" if it.late is None else f"{it.late:.3f} s"),
+        *fact_pairs(view, it.name),
+        ("Groups", ", ".join(link("/", name, group=name) for name in view.group_names(it.name))),
+        *((kind.replace("_", " ").capitalize(), html_text(", ".join(groups.names.get(kind, ())))) for kind in ("contact_groups", "contacts")),
+        *((wish.replace("_", " ").capitalize(), html_text(value.strip(","))) for wish, value in groups.notifications.items()),
     ]
-    changes = [(times.short(each.time), badge(each.state, each.kind, each.flapping), str(each.attempt), html_text(first_line(text_of(each.words))))
-               for each in reversed(status.changes) if each.time >= status.now - DAY]
-    values = [(html_text(its.label), html_text(f"{its.value:g} {its.unit}")) for its in performance_values(it.words)]
+    changes = [(view.time(each.time), badge(each.state, each.kind, each.flapping), str(each.attempt), html_text(first_line(text_of(each.words))))
+               for each in reversed(status.changes) if each.time >= view.now - DAY]
+    values = [(html_text(label), html_text(f"{number_text(value)} {unit}")) for (label, unit), value in performance_values(it.words).items()]
+    services = [] if service else status.others
     body = [
-        f"<h2>{html_text(it.name)} {badge(it.state, it.kind, it.flapping)}</h2>",
-        tiles([pair for pair in pairs if pair[1]]),
-        f"<pre>{html_text(text_of(it.words)) or 'no words'}</pre>",
-        table(values, "", ("Performance data", "Value"), "c") if values else "",
-        silence_link(it.name, site, alertmanager) if alertmanager and it.is_problem() else "",
-        "<h2>The last day</h2>",
-        day_chart(status, times),
-        table(changes, "No change in the last day.", ("Time", "State", "Attempt", "Words"), "c"),
+        f"<pre>{html_text(text_of(it.words)) or 'no status information'}</pre>",
+        *(remark_text(each, view) for each in status.remarks),
+        tiles(pairs),
+        silence_link(it.name, view.site, alertmanager) if alertmanager and it.is_problem() else "",
+        *section("Performance data", table(values, ("Label", "Value"))),
+        *section(f"Services: {len(services)}", view.rows(services[:MOST_SERVICES], {}),
+                 f"<p>{link('/all', 'All of them', text=f'{host};')}</p>" if len(services) > MOST_SERVICES else ""),
+        *section("The last day", day_chart(status, view), table(changes, ("Time", "State", "Attempt", "Status information"), "No change in the last day.")),
         "<p>There were more changes than these.</p>" if status.is_cut else "",
     ]
-    return html_page(f"{it.name}: {it.state}", site, times, body)
+    name = f"{html_text(service)} on {link('/object', host, name=host)}" if service else html_text(host)
+    return view.page(f"{it.name}: {it.state}", body, f"{name} {badge(it.state, it.kind, it.flapping)}")

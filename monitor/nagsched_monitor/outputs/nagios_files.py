@@ -1,58 +1,66 @@
 """Nagios's own files of a site: `status.dat`, which Nagios's pages show, and the pipe `nagios.cmd`, which takes commands.
 
 It is a process next to the monitor. Its arguments are the site's folder, the folder of the files, and `notifies` if a command is run for changes. It reads the
-database, and sends requests to the monitor through its socket.
-"""
-import itertools
-import json
-import os
+database, and sends requests to the monitor through its socket."""
 import pathlib
 import select
-import sqlite3
 import sys
 import time
-from typing import Dict, List, Optional, Sequence, Tuple
+from typing import Dict, List, Mapping, Sequence, Tuple
 
-from ..faults import MonitorFault, RequestFault
-from ..inputs.client import send_requests
-from ..inputs.nagios_pipe import Pipe, Request, requests_of
-from ..store.rows import StoredStanding
+from ..faults import MonitorFault, raising
+from ..inputs.nagios_pipe import NAME, CommandQueue, Pipe
+from ..model.remarks import Remark
+from ..model.text import printable_text
+from ..system.log import Trouble
+from ..system.poller import replace_file
 from ..system.processes import ParentMonitor
-from .nagios_blocks import Document, Program, Settings, settings_of, status_file
-from .status_query import MEMBERS, StatusUnavailable, open_database, read_standings
+from .object_columns import ENTRY_TYPES, HOST_COLUMNS, HOST_STATES, SERVICE_COLUMNS, SERVICE_STATES, Column
+from .object_rows import ObjectRow, ObjectRows
+from .status_query import StatusUnavailable
 
 # How often the status file is written, and the longest pause before waiting requests are sent again, in seconds.
 EVERY = 10.0
 PAUSE = 1.0
-# Requests that are made together.
-AT_ONCE = 64
-MODE = 0o644
-FILES = ("commands.json", "periods.json", "passive.json")
+# The members of an object that have other names here than its columns, and those that have the same.
+NAMES = {
+    "check_execution_time": "execution_time", "check_latency": "latency", "current_state": "state", "performance_data": "perf_data",
+    "max_attempts": "max_check_attempts", "passive_checks_enabled": "accept_passive_checks", "problem_has_been_acknowledged": "acknowledged",
+    **{name: name for name in (
+        "check_command", "check_period", "check_interval", "retry_interval", "has_been_checked", "should_be_scheduled", "check_type", "last_hard_state",
+        "plugin_output", "long_plugin_output", "last_check", "next_check", "check_options", "current_attempt", "state_type", "last_state_change",
+        "last_hard_state_change", "last_notification", "next_notification", "no_more_notifications", "current_notification_number", "notifications_enabled",
+        "notification_period", "active_checks_enabled", "event_handler", "event_handler_enabled", "flap_detection_enabled", "process_performance_data",
+        "obsess",
+        "modified_attributes", "is_flapping", "percent_state_change", "acknowledgement_type", "scheduled_downtime_depth",
+    )},
+}
+HOST_NAMES = {"host_name": "name", **NAMES, **{name: name for name in (f"last_time_{state.lower()}" for state in HOST_STATES)}}
+SERVICE_NAMES = {"host_name": "host_name", "service_description": "description", **NAMES,
+                 **{name: name for name in (f"last_time_{state.lower()}" for state in SERVICE_STATES)}}
+# Members that are the same for every object, and for the program: the monitor has no event handlers.
+ZEROS = dict.fromkeys(("last_event_id", "current_event_id", "current_problem_id", "last_problem_id", "current_notification_id", "importance"), 0)
+OF_PROGRAM = {
+    **dict.fromkeys(("modified_host_attributes", "modified_service_attributes", "last_log_rotation", "enable_event_handlers", "obsess_over_services",
+                     "obsess_over_hosts", "process_performance_data"), 0),
+    **dict.fromkeys(("daemon_mode", "active_service_checks_enabled", "passive_service_checks_enabled", "active_host_checks_enabled",
+                     "passive_host_checks_enabled", "check_service_freshness", "check_host_freshness", "enable_flap_detection", "next_comment_id",
+                     "next_downtime_id", "next_event_id", "next_problem_id", "next_notification_id"), 1),
+}
+NO_STATS = ("active_ondemand_host_check", "active_ondemand_service_check", "cached_host_check", "cached_service_check", "parallel_host_check",
+            "serial_host_check", "external_command")
 
 
 class NagiosFiles:
-    """The files of one site, while this process updates them."""
-
     def __init__(self, site: pathlib.Path, folder: pathlib.Path, notifies: bool, monitor: ParentMonitor) -> None:
         self._site, self._folder, self._monitor = site, folder, monitor
         folder.mkdir(parents=True, exist_ok=True)
-        self._program = Program(os.getppid(), int(time.time()), notifies)
-        self._settings: Dict[str, Settings] = {}
-        # The setups and files that were read last, and the contents of the files as they were last without a fault.
-        self._seen: Tuple[object, ...] = ()
-        self._documents: Sequence[Document] = ({}, {}, {})
-        # The number of the last change that was read, and the state of each object after it.
-        self._last_change = 0
-        self._last_state: Dict[str, str] = {}
-        self._services: Dict[str, List[str]] = {}
-        self._fault: Optional[str] = None
+        self._rows = ObjectRows(site, self._log, notifies)
+        self._trouble = Trouble(self._log, "status.dat isn't written")
         self._pipe = Pipe(folder)
-        self._waiting: List[Tuple[str, Request]] = []
-        # Each request has a number of its own, so that it isn't obeyed twice when it is sent twice.
-        self._numbers = map(f"pipe-{os.getpid()}-{time.time_ns()}-{{}}".format, itertools.count(1))
+        self._commands = CommandQueue(site, NAME)
 
     def run(self) -> None:
-        """Works until its standard input ends."""
         self.write()
         self.read_commands(self._pipe.taken_over)
         next_write = time.monotonic() + EVERY
@@ -61,118 +69,84 @@ class NagiosFiles:
                 next_write = time.monotonic() + EVERY
                 self.write()
             # While requests wait for the monitor, no more are read: the pipe holds them.
-            files = [sys.stdin.fileno(), *([] if self._waiting else [self._pipe.file])]
+            files = [sys.stdin.fileno(), *([] if self._commands.waiting else [self._pipe.file])]
             left = max(0.0, next_write - time.monotonic())
-            ready, _, _ = select.select(files, [], [], min(PAUSE, left) if self._waiting else left)
+            ready, _, _ = select.select(files, [], [], min(PAUSE, left) if self._commands.waiting else left)
             if self._monitor.is_ended(0):
                 break
             if self._pipe.file in ready:
                 self.read_commands(self._pipe.read())
-            self.send_requests()
-        for name, _ in self._waiting:
-            self._log(f"{name}: the monitor ended before it")
+            self._commands.send()
+        for line in self._commands.drop():
+            self._log(line)
         self._pipe.close()
 
     def _log(self, line: str) -> None:
         self._monitor.log(f"nagios files: {line}")
 
-    # ---- the status file
-
     def write(self) -> None:
         """Writes the status file again; if that fails, the old one stays."""
-        try:
-            with open_database(self._site) as database:
-                self._read_settings(database)
-                self._read_changes(database)
-                standings = sorted(read_standings(database, MEMBERS))
-            self._services = services_by_host(standings)
-            text = status_file(self._program, self._settings, standings, time.time())
-            replace_file(self._folder / "status.dat", text.encode(errors="replace"))
-            self._fault = None
-        except (OSError, StatusUnavailable, ValueError) as error:
-            fault = f"status.dat isn't written: {error}"
-            if fault != self._fault:
-                self._log(fault)
-            self._fault = fault
-
-    def _read_settings(self, database: sqlite3.Connection) -> None:
-        """Reads the setups and the other files of the site, if they have changed."""
-        setups = dict(database.execute("SELECT part, setup FROM generations ORDER BY id"))
-        files = [path.read_bytes() if path.exists() else b"" for path in (self._site / name for name in FILES)]
-        if self._seen == (setups, files):
-            return
-        self._seen, parts = (setups, files), [json.loads(setup) for setup in setups.values()]
-        try:
-            documents = [json.loads(file or b"{}") for file in files]
-            self._settings = settings_of(parts, *documents)
-            self._documents = documents
-        except (ValueError, AttributeError) as error:
-            self._log(f"the files of the site are half read: {error}")  # they are being edited, and weren't reloaded
-            self._settings = settings_of(parts, *self._documents)
-
-    def _read_changes(self, database: sqlite3.Connection) -> None:
-        """Reads the times at which objects left a state, from the new changes."""
-        for number, moment, name, state in database.execute("SELECT id, time, name, state FROM changes WHERE id > ? ORDER BY id", (self._last_change,)):
-            before = self._last_state.get(name, "OK" if ";" in name else "UP")
-            if before != state:
-                self._program.last_times.setdefault(name, {})[before] = moment
-            self._last_state[name], self._last_change = state, number
-
-    # ---- the pipe
+        with self._trouble.noted(OSError, StatusUnavailable):
+            self._rows.read()
+            replace_file(self._folder / "status.dat", status_file(self._rows).encode(errors="replace"))
 
     def read_commands(self, lines: Sequence[bytes]) -> None:
-        """Takes in lines of the pipe, and logs each one that isn't obeyed."""
         for line in lines:
-            try:
-                name, requests = requests_of(line, self._services)
-                self._waiting.extend((name, {**request, "number": next(self._numbers)}) for request in requests)
-            except RequestFault as fault:
-                self._log(str(fault))
-
-    def send_requests(self) -> None:
-        """Has the monitor obey the waiting requests. Requests that it doesn't answer, or can't obey now, are sent again."""
-        while self._waiting:
-            some = self._waiting[:AT_ONCE]
-            try:
-                answers = send_requests(self._site, [json.dumps(request, ensure_ascii=False).encode(errors="replace") for _, request in some])
-            except MonitorFault:
-                return  # it begins, ends or reads its site; the request is sent again
-            again = []
-            for (name, request), answer in zip(some, map(json.loads, answers)):
-                if answer.get("again", False):
-                    again.append((name, request))
-                elif "error" in answer:
-                    self._log(f"{name}: {request.get('name', '')}: {answer['error']}")
-            self._waiting[: len(answers)] = again
-            if again or len(answers) < len(some):
-                return
+            self._commands.add(line, self._rows.services, self._rows.groups)
+        self._commands.refused.clear()
 
 
-def services_by_host(standings: Sequence[StoredStanding]) -> Dict[str, List[str]]:
-    """The services of each host."""
-    services: Dict[str, List[str]] = {}
-    for kept in standings:
-        host, is_service, description = kept.name.partition(";")
-        services.setdefault(host, []).extend([description] if is_service else [])
-    return services
+def status_file(site: ObjectRows) -> str:
+    now, all_of = site.now, site.objects.values()
+    hosts, services = [it for it in all_of if not it.description], [it for it in all_of if it.description]
+    info = {"created": int(now), "version": "4.4.6", "last_update_check": 0, "update_available": 0, "last_version": "", "new_version": ""}
+    blocks = [block("info", info), program_block(site, hosts, services)]
+    for kind, names, columns, rows in (("hoststatus", HOST_NAMES, HOST_COLUMNS, hosts), ("servicestatus", SERVICE_NAMES, SERVICE_COLUMNS, services)):
+        members = [(name, columns[column]) for name, column in names.items()]
+        blocks += [block(kind, {**object_members(members, it), **ZEROS, "last_update": int(now)}) for it in rows]
+    return "\n".join([*blocks, *(remark_block(each, it, now) for it in (*hosts, *services) for each in it.remarks if each.kind != "mute")])
 
 
-def replace_file(path: pathlib.Path, data: bytes) -> None:
-    """Writes a file as a whole: a reader gets the old one or this."""
-    new = path.with_name(f"{path.name}.new")
-    new.unlink(missing_ok=True)
-    with open(new, "xb", opener=lambda name, flags: os.open(name, flags, MODE)) as there:
-        os.fchmod(there.fileno(), MODE)
-        there.write(data)
-    new.replace(path)
+def block(kind: str, members: Mapping[str, object]) -> str:
+    lines = "".join([f"\t{name}={value}\n" for name, value in members.items()])
+    return f"{kind} {{\n{lines}\t}}\n"
 
 
-def main() -> int:
+def object_members(members: List[Tuple[str, Column]], it: ObjectRow) -> Dict[str, object]:
+    return {name: f"{column.value(it):.3f}" if column.kind == "float" else column.value(it) for name, column in members}
+
+
+def remark_block(its: Remark, it: ObjectRow, now: float) -> str:
+    """The block of a downtime, or of a comment, which an acknowledgement has too."""
+    of = {"host_name": it.host_name, **({"service_description": it.description} if it.description else {})}
+    kind, author, text, made_at = "service" if it.description else "host", printable_text(its.author), printable_text(its.text), int(its.made_at)
+    start, end = int(its.starts_at), int(its.ends_at or 0)
+    if its.kind == "downtime":
+        return block(f"{kind}downtime", {
+            **of, "comment_id": 0, "downtime_id": its.id, "entry_time": made_at, "start_time": start, "flex_downtime_start": int(its.began_at or 0),
+            "end_time": end, "triggered_by": 0, "fixed": int(its.duration is None), "duration": int(its.duration or end - start),
+            "is_in_effect": int(its.holds(now)), "start_notification_sent": 0, "author": author, "comment": text,
+        })
+    return block(f"{kind}comment", {
+        **of, "entry_type": ENTRY_TYPES[its.kind], "comment_id": its.id, "source": 1, "persistent": int(its.persistent),
+        "entry_time": made_at, "expires": int(end > 0), "expire_time": end, "author": author, "comment_data": text,
+    })
+
+
+def program_block(site: ObjectRows, hosts: List[ObjectRow], services: List[ObjectRow]) -> str:
+    """The monitor itself, and how many objects were checked within the last minute, five minutes and fifteen."""
+    checked = {}
+    for what, all_of in (("host", hosts), ("service", services)):
+        for how, is_passive in (("active_scheduled", False), ("passive", True)):
+            times = [it.standing.last_check or 0 for it in all_of if it.is_passive == is_passive]
+            checked[f"{how}_{what}_check_stats"] = ",".join(str(sum(time > site.now - span for time in times)) for span in (60, 300, 900))
+    own = {"nagios_pid": site.process, "program_start": site.started_at, "enable_notifications": site.notifies(),
+           "global_host_event_handler": "", "global_service_event_handler": ""}
+    return block("programstatus", {**OF_PROGRAM, **own, **checked, **{f"{each}_stats": "0,0,0" for each in NO_STATS}})
+
+
+def main() -> None:
     monitor = ParentMonitor()
     site, folder, *others = monitor.arguments
-    try:
+    with raising(SystemExit, "nagios files", MonitorFault):
         NagiosFiles(pathlib.Path(site), pathlib.Path(folder), "notifies" in others, monitor).run()
-    except (MonitorFault, OSError) as fault:
-        monitor.log(f"nagios files: {fault}")
-        return 1
-    return 0

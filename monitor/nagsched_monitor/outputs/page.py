@@ -1,42 +1,36 @@
-"""A page of a site for a browser, its status as data, and its figures for Prometheus: a separate process, which reads the database and writes nothing.
-
-    /                the page; /?group=NAME a group of it; /object?name=NAME an object with its last day
-    /status.json     the same as data
-    /metrics         figures in Prometheus's text format
+"""The pages of a site for a browser, its status as data, and its figures for Prometheus: a separate process, which reads the database and writes nothing.
 
 Its arguments are its address, the site's folder, Alertmanager's address or nothing, and the names by which it is reached. It asks nobody for a password, so
 use an address that others reach only in a trusted network. A request whose `Host` is neither an address nor one of the names is refused: another site's
-page can make a browser send one.
-"""
+page can make a browser send one."""
+import collections
 import contextlib
 import datetime
+import functools
 import http.server
 import ipaddress
 import json
 import pathlib
 import socket
-import socketserver
-import sys
 import threading
-import time
 import urllib.parse
 from http import HTTPStatus
-from typing import Any, Callable, Dict, Optional, Sequence, Tuple
+from typing import Any, Callable, Dict, Optional, Sequence, Tuple, Union
 
-from ..faults import MonitorFault, SiteFault
-from ..site.groups_file import NO_GROUPS, GroupsFile
+from ..faults import MonitorFault, SiteFault, raising
+from ..site.json_files import members_by_name
+from ..site.people_files import GROUPS, INVENTORY, WatchedFile, read_groups, read_inventory
 from ..site.site import read_options
 from ..system.addresses import parse_address
 from ..system.processes import ParentMonitor
-from . import html_pages, metrics
-from .status_query import MEMBERS, StatusUnavailable, read_object, read_site_status
+from ..system.thread_server import LONGEST_REQUEST, ThreadServer
+from . import metrics
+from .html_pages import all_page, object_page, problems_page
+from .html_parts import HEADERS, View
+from .status_query import MEMBERS, ObjectStatus, SiteStatus, StatusUnavailable, open_database, read_object, read_site_status
 
-# How long a client may send nothing, and how long a request may take in all, in seconds.
-PATIENCE = 5
-LONGEST_REQUEST = 60
-MOST_CLIENTS = 64
-# The documents that are made at once: each takes a processor for up to a second in a large site.
-AT_ONCE = 2
+PATIENCE = 5  # how long a client may send nothing, in seconds
+AT_ONCE = 2  # the documents that are made at once: each takes a processor for up to a second in a large site
 HTML, JSON, METRICS, PLAIN = "text/html; charset=utf-8", "application/json", "text/plain; version=0.0.4; charset=utf-8", "text/plain; charset=utf-8"
 
 
@@ -61,7 +55,8 @@ class Handler(http.server.BaseHTTPRequestHandler):
             return self.send_error(HTTPStatus.MISDIRECTED_REQUEST)
         path, _, query = self.path.partition("?")
         try:
-            document = self.server.site.document(path, query)
+            with self.server.free:
+                document = self.server.site.document(path, query)
         except StatusUnavailable as fault:
             return self._send(HTTPStatus.SERVICE_UNAVAILABLE, PLAIN, f"{fault}\n")
         if document is None:
@@ -73,7 +68,7 @@ class Handler(http.server.BaseHTTPRequestHandler):
     def _send(self, status: HTTPStatus, kind: str, body: str) -> None:
         data = body.encode(errors="replace")
         self.send_response(status)
-        for name, value in {**html_pages.HEADERS, "Content-Type": kind, "Content-Length": str(len(data)), "Connection": "close"}.items():
+        for name, value in {**HEADERS, "Content-Type": kind, "Content-Length": str(len(data)), "Connection": "close"}.items():
             self.send_header(name, value)
         if status == HTTPStatus.METHOD_NOT_ALLOWED:
             self.send_header("Allow", "GET, HEAD")
@@ -95,92 +90,57 @@ class Handler(http.server.BaseHTTPRequestHandler):
         """Requests aren't logged."""
 
 
-class SiteFolder:
-    """The folder of a site that the page shows."""
+@functools.lru_cache(maxsize=64)
+def attempts_of(setup: bytes) -> Dict[str, int]:
+    """The attempts after which a problem is hard, by the setup of a part."""
+    return {name: its["max_check_attempts"] for name, its in members_by_name(json.loads(setup)).items()}
 
+
+class SiteFolder:
     def __init__(self, folder: pathlib.Path, alertmanager: str = "") -> None:
-        self._folder, self._name, self._groups, self._alertmanager = folder, folder.resolve().name, GroupsFile(folder), alertmanager
+        self._folder, self._name, self._alertmanager = folder, folder.resolve().name, alertmanager
+        self._groups, self._inventory = WatchedFile(folder / GROUPS, read_groups), WatchedFile(folder / INVENTORY, read_inventory)
         self._zone: Optional[datetime.tzinfo] = None
-        self._free = threading.BoundedSemaphore(AT_ONCE)
 
     def document(self, path: str, query: str) -> Optional[Tuple[str, str]]:
         """The kind and the text of the resource at a path; None if there is nothing. Raises `StatusUnavailable` if the database can't be read."""
-        with self._free:
-            return self._document(path, query)
-
-    def _document(self, path: str, query: str) -> Optional[Tuple[str, str]]:
-        groups = self._groups.read()
-        with contextlib.suppress(SiteFault):  # while the file is faulty, the zone stays
-            self._zone = read_options(self._folder).zone
+        groups, given = self._groups.read(), urllib.parse.parse_qs(query)
         if path == "/":
-            group = urllib.parse.parse_qs(query).get("group", [""])[0]
-            return HTML, html_pages.site_page(read_site_status(self._folder), groups, group, self._name, self._zone)
+            return HTML, problems_page(self._view(status := read_site_status(self._folder)), status, given.get("group", [""])[0])
+        if path == "/all":
+            return HTML, all_page(self._view(status := read_site_status(self._folder)), status, {name: values[0] for name, values in given.items()})
         if path == "/status.json":
             return JSON, json.dumps(metrics.status_document(read_site_status(self._folder), groups, self._name), ensure_ascii=False) + "\n"
         if path == "/metrics":
             return METRICS, metrics.metrics(read_site_status(self._folder, members=MEMBERS), groups, metrics.read_signs(self._folder), self._name)
-        if path == "/object":
-            names = urllib.parse.parse_qs(query, keep_blank_values=True).get("name", [])
-            status = read_object(self._folder, names[0]) if len(names) == 1 else None
-            if status is not None:
-                groups_of_it = groups.get(status.standing.name, NO_GROUPS)
-                return HTML, html_pages.object_page(status, groups_of_it, self._name, self._zone, self._alertmanager)
+        if path == "/object" and len(given.get("name", ())) == 1 and (found := read_object(self._folder, given["name"][0])) is not None:
+            return HTML, object_page(self._view(found), found, self._alertmanager)
         return None
 
+    def _view(self, status: Union[SiteStatus, ObjectStatus]) -> View:
+        with contextlib.suppress(SiteFault):  # while the file is faulty, the zone stays
+            self._zone = read_options(self._folder).zone
+        with open_database(self._folder) as database:
+            attempts = collections.ChainMap(*(attempts_of(setup) for (setup,) in database.execute("SELECT setup FROM generations")))
+        return View(self._name, status.now, self._zone, attempts, self._groups.read(), self._inventory.read())
 
-class Server(socketserver.ThreadingTCPServer):
-    """The server of a page: a thread for each client, up to a limit."""
 
-    allow_reuse_address = daemon_threads = True
-    request_queue_size = MOST_CLIENTS
-    # The longest wait for a client before the next look at late ones and at the monitor, in seconds.
-    timeout = 0.5
-
+class Server(ThreadServer):
     def __init__(self, place: Tuple[str, int], site: SiteFolder, names: Sequence[str] = (), log: Callable[[str], None] = print) -> None:
         self.address_family = socket.AF_INET6 if ":" in place[0] else socket.AF_INET
-        self.site, self.names, self._log = site, [name.lower() for name in names], log
-        # When each open connection began. Only the server's own thread adds some, and each thread removes its own.
-        self._started_at: Dict[Any, float] = {}
-        super().__init__(place, Handler)
+        self.site, self.names = site, [name.lower() for name in names]
+        self.free = threading.BoundedSemaphore(AT_ONCE)
+        super().__init__(place, Handler, "the page", log)
 
     def url(self) -> str:
         host, port = str(self.server_address[0]), self.server_address[1]
         return f"http://{f'[{host}]' if ':' in host else host}:{port}/"
 
-    def process_request(self, request: Any, client_address: Any) -> None:
-        if len(self._started_at) >= MOST_CLIENTS:
-            return self.shutdown_request(request)
-        self._started_at[request] = time.monotonic()
-        super().process_request(request, client_address)
-
-    def shutdown_request(self, request: Any) -> None:
-        self._started_at.pop(request, None)
-        super().shutdown_request(request)
-
-    def service_actions(self) -> None:
-        """Closes connections of clients that take too long."""
-        for request, begun in list(self._started_at.items()):
-            if time.monotonic() - begun > LONGEST_REQUEST:
-                with contextlib.suppress(OSError):  # it has just ended
-                    request.shutdown(socket.SHUT_RDWR)
-
-    def handle_error(self, request: Any, client_address: Any) -> None:
-        """A failed request is a line of the log, unless its client has gone or sends nothing."""
-        fault = sys.exc_info()[1]
-        if not isinstance(fault, OSError):
-            self._log(f"the page: {type(fault).__name__}: {fault}")
-
 
 def main() -> int:
     monitor = ParentMonitor()
     place, folder, alertmanager, *names = monitor.arguments
-    try:
+    with raising(SystemExit, f"the page on {place}", MonitorFault):
         server = Server(parse_address(place), SiteFolder(pathlib.Path(folder), alertmanager), names, monitor.log)
-    except (MonitorFault, OSError) as fault:
-        sys.exit(f"the page on {place}: {fault}")
     monitor.log(f"the page is at {server.url()}")
-    while not monitor.is_ended(0):
-        server.handle_request()
-        server.service_actions()
-    server.server_close()
-    return 0
+    return server.run(monitor)

@@ -19,20 +19,13 @@ class ServiceManager:
         self._interval: Optional[float] = int(watched) / 1e6 / 2 if is_mine else None
         self._last_sent = clock()
 
-    def notify_ready(self, words: str) -> None:
-        """The monitor works; `systemctl status` shows the text."""
-        self._send(f"READY=1\nSTATUS={words}")
-
     def notify_alive(self) -> None:
         """The loop runs; the message is sent twice within the time that the manager waits."""
         if self._interval is not None and self._clock() - self._last_sent >= self._interval:
             self._last_sent = self._clock()
-            self._send("WATCHDOG=1")
+            self.notify("WATCHDOG=1")
 
-    def notify_stopping(self) -> None:
-        self._send("STOPPING=1")
-
-    def _send(self, lines: str) -> None:
+    def notify(self, lines: str) -> None:
         if not self._address:
             return
         # A name that begins with @ isn't the name of a file.

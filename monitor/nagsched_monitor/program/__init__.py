@@ -1,1 +1,0 @@
-"""The program: its options, its loop, and the processes next to it."""

@@ -1,13 +1,12 @@
 """The loop of a monitor: one turn after another, the waiting between them, the chores of every second, and the handling of a turn's exceptions.
 
-A turn costs far more than one more check in it, so events that come close together share one.
-"""
+A turn costs far more than one more check in it, so events that come close together share one."""
 import traceback
 from typing import Callable, Optional, Sequence
 
 from ..core.engine import Engine
 from ..model.clock import Clock
-from ..model.object_state import LONGEST_SHARING
+from ..model.objects import LONGEST_SHARING
 from ..system.poller import FilePoller
 
 # All times are in milliseconds. The least time from one turn to the next, and how far off a due check may be so that results wait for its turn.
@@ -22,14 +21,11 @@ Action = Callable[[], Optional[int]]
 
 
 class Loop:
-    """Turns, and the actions around them."""
-
     def __init__(self, engine: Engine, poller: FilePoller, clock: Clock, log: Callable[[str], None], before: Sequence[Action], after: Sequence[Action],
                  chores: Sequence[Callable[[], None]]) -> None:
         self._engine, self._poller, self._clock, self._log = engine, poller, clock, log
         self._before, self._after, self._chores = before, after, chores
-        # The exit status of the process, when the loop has to end.
-        self.status: Optional[int] = None
+        self.status: Optional[int] = None  # the exit status of the process, when the loop has to end
         self._chores_at = 0
         self._faults = 0
 
@@ -37,13 +33,11 @@ class Loop:
         self.status = 0 if self.status is None else self.status
 
     def run(self) -> int:
-        """Works until it is stopped; returns the exit status."""
         while self.status is None:
             self.run_turn()
         return self.status
 
     def run_turn(self) -> None:
-        """One turn, and the other actions after it."""
         begun = self._clock.moment()
         try:
             wanted = self._turn(begun)
@@ -67,7 +61,7 @@ class Loop:
 
     def _handle_fault(self) -> None:
         self._faults += 1
-        self._engine.counters.count_fault()
+        self._engine.counters.count("faults")
         for line in traceback.format_exc().rstrip().split("\n"):
             self._log(f"fault: {line}")
         if self._faults >= MOST_FAULTS:

@@ -8,23 +8,22 @@ import pathlib
 import shutil
 import sqlite3
 import sys
+import time
 from typing import Any, Dict, List, Optional
 
-from ..faults import MonitorFault, NotStored
+from ..faults import MonitorFault, NotStored, raising, user_name
 from ..inputs.client import send_request
-from ..outputs.status_lines import clock_time, status_complaints, status_lines
-from ..outputs.status_query import StatusUnavailable, read_site_status
+from ..outputs.status_query import StatusUnavailable, clock_time, read_site_status, remark_lines, status_complaints, status_lines
 from ..site.site import read_site
 from ..store.store import Store
-from ..system import addresses
 from ..system.log import Log
-from .build_record import own_version
-from .monitor import Monitor
+from .monitor import Monitor, own_version
 from .site_reader import LIMIT as READING_LIMIT
 
 # How long a command waits for its answer, in seconds. A reload first reads the site.
 PATIENCE, RELOAD_PATIENCE = 30.0, READING_LIMIT + 30.0
 OBJECT = "a host's name, or host;description of a service"
+UNITS = {"s": 1, "m": 60, "h": 3_600, "d": 86_400}
 CODES = {"OK": 0, "UP": 0, "WARNING": 1, "CRITICAL": 2, "DOWN": 2, "UNKNOWN": 3}
 
 
@@ -36,6 +35,14 @@ def parse_time(text: str) -> float:
         return datetime.datetime.fromisoformat(text).timestamp()
     except ValueError:
         raise argparse.ArgumentTypeError(f"it has to be a date and time such as 2026-11-27T18:00 or a number of seconds, not {text!r}") from None
+
+
+def parse_duration(text: str) -> float:
+    """A duration from the command line: a number of seconds, or of another unit, such as 2h."""
+    try:
+        return float(text.rstrip("smhd")) * UNITS[text.lstrip("0123456789.") or "s"]
+    except (ValueError, KeyError):
+        raise argparse.ArgumentTypeError(f"it has to be a number of seconds, or a number with m, h or d, such as 2h, not {text!r}") from None
 
 
 def parse_code(text: str) -> int:
@@ -58,7 +65,8 @@ def parse_arguments(given: Optional[List[str]]) -> argparse.Namespace:
                                      description="Monitors a site: it runs plugins, and nagsched decides which is due.")
     parser.add_argument("--version", action="version", version=f"nagsched-monitor {own_version()}", help="print the version and end")
     parser.add_argument("folder", metavar="DIR", type=pathlib.Path, help="the folder of the site")
-    parser.add_argument("--program", default=default_program(), metavar="PATH", help="the program nagsched; without it, on the path, next to this one, or built in this checkout")
+    parser.add_argument("--program", default=default_program(), metavar="PATH",
+                        help="the program nagsched; without it, on the path, next to this one, or built in this checkout")
     parser.add_argument("--alertmanager", action="append", default=[], metavar="URL", help="post standing problems to this Alertmanager; several may be named")
     parser.add_argument("--on-change", metavar="COMMAND", help="run this for hard changes, with a line of JSON for each on its standard input")
     parser.add_argument("--page", metavar="ADDRESS:PORT", help="show a page for browsers there, and figures for Prometheus")
@@ -67,6 +75,8 @@ def parse_arguments(given: Optional[List[str]]) -> argparse.Namespace:
                         help="a name by which browsers reach the page, as well as addresses and localhost")
     parser.add_argument("--textfile", metavar="FILE", type=pathlib.Path, help="keep the figures in this file, for node_exporter's textfile collector")
     parser.add_argument("--nagios-files", metavar="DIRECTORY", type=pathlib.Path, help="keep Nagios's status.dat and its pipe nagios.cmd there")
+    parser.add_argument("--perfdata", metavar="DIRECTORY", type=pathlib.Path, help="write performance data there, in the form of PNP4Nagios's spool")
+    parser.add_argument("--livestatus", metavar="SOCKET", type=pathlib.Path, help="answer Livestatus's queries there, for NagVis, Thruk and others")
     add_commands(parser)
     return parser.parse_args(given)
 
@@ -87,20 +97,44 @@ def add_commands(parser: argparse.ArgumentParser) -> None:
     result.add_argument("name", help=OBJECT)
     result.add_argument("code", type=parse_code, help="0 to 3, or OK, WARNING, CRITICAL or UNKNOWN; UP or DOWN of a host")
     result.add_argument("output", nargs="?", default="", help="what the plugin printed")
+    add_remark_commands(commands)
     for word, what in (
         ("notify-test", "gives the command for changes a marked change"), ("test", "reads the site and tests it"), ("reload", "reads the site again"),
-        ("save", "saves the state"), ("stop", "ends the monitor"),
+        ("save", "saves the state"), ("new-database", "writes what the monitor has in memory to a new database, if the file is gone or another's"),
+        ("stop", "ends the monitor"),
         ("drop-calls", "drops the calls since the last saved state from a damaged database, while no monitor runs"),
     ):
         commands.add_parser(word, help=what)
 
 
+def add_remark_commands(commands: Any) -> None:
+    """The commands about remarks. Their author is the user who gives them, also through `sudo`."""
+    for word, what in (("ack", "acknowledges a problem: people aren't notified of it until its state changes"), ("comment", "adds a comment to an object"),
+                       ("downtime", "plans a downtime: people aren't notified of the object, and of a host's services, meanwhile")):
+        made = commands.add_parser(word, help=what)
+        made.add_argument("name", help=OBJECT)
+        if word == "downtime":
+            made.add_argument("lasting", type=parse_duration, metavar="DURATION", help="how long it lasts: a number of seconds, or such as 30m, 2h or 1d")
+            made.add_argument("--from", type=parse_time, metavar="T", help="when it begins; now without it")
+            made.add_argument("--within", type=parse_duration, metavar="DURATION", help="make it flexible: it begins with a problem within this time")
+        made.add_argument("text", help="why")
+        made.add_argument("--author", default=os.environ.get("SUDO_USER") or user_name(os.getuid()), help="who says so; the user without it")
+    ack, comment = commands.choices["ack"], commands.choices["comment"]
+    ack.add_argument("--sticky", action="store_true", help="until the object is OK or UP again, also through other states")
+    ack.add_argument("--persistent", action="store_true", help="its text stays as a comment after its end")
+    ack.add_argument("--until", type=parse_time, metavar="T", help="the latest end")
+    comment.add_argument("--until", type=parse_time, metavar="T", help="its end; without it, it stays until it is removed")
+    remarks = commands.add_parser("remarks", help="prints acknowledgements, downtimes, comments and mutes, or removes them")
+    remarks.add_argument("pattern", nargs="?", default="*", help="names of objects, with * and ? as in a shell; all without it")
+    remarks.add_argument("--remove", dest="id", type=int, metavar="ID", help="remove the one with this number")
+
+
 def answer_text(answer: Dict[str, Any]) -> str:
-    """An answer as lines of text."""
     if "at" in answer:
         return f"reschedule: {answer['name']} at {clock_time(answer['at'])}{'' if answer['on'] else ', but its checks are off'}"
     others = [f"{word}: {name}" for word in ("new", "dropped") for name in answer.get(word, ())]
-    return "\n".join([f"{answer['done']}: {answer.get('name', 'done')}", *others, *answer.get("changed", ())])
+    number = f" {answer['id']}" if "id" in answer else ""
+    return "\n".join([f"{answer['done']}{number}: {answer.get('name', 'done')}", *others, *answer.get("changed", ())])
 
 
 def print_status(arguments: argparse.Namespace) -> int:
@@ -115,10 +149,22 @@ def print_status(arguments: argparse.Namespace) -> int:
     return int(not lines or status.silent_seconds() is not None)
 
 
+def print_remarks(arguments: argparse.Namespace) -> int:
+    if arguments.id is not None:
+        arguments.command = "remove"
+        return ask_monitor(arguments)
+    sys.stdout.write("".join(f"{line}\n" for line in remark_lines(read_site_status(arguments.folder).remarks, arguments.pattern)))
+    return 0
+
+
 def ask_monitor(arguments: argparse.Namespace) -> int:
-    """Sends a request to the running monitor, and prints its answer."""
-    given = {member: getattr(arguments, member, None) for member in ("name", "at", "force", "code", "output")}
+    members = ("name", "at", "force", "code", "output", "author", "text", "from", "until", "sticky", "persistent", "id")
+    given = {member: getattr(arguments, member, None) for member in members}
     request = {"do": arguments.command, **{member: value for member, value in given.items() if value is not None}}
+    if arguments.command == "downtime":
+        begin = request.setdefault("from", time.time())
+        request["until"] = begin + (arguments.lasting if arguments.within is None else arguments.within)
+        request.update({} if arguments.within is None else {"duration": arguments.lasting})
     patience = RELOAD_PATIENCE if arguments.command == "reload" else PATIENCE
     answer = json.loads(send_request(arguments.folder, json.dumps(request).encode(), patience) or b'{"error": "the monitor ended"}')
     if "error" in answer:
@@ -143,11 +189,11 @@ def drop_calls(arguments: argparse.Namespace) -> int:
 def main(given: Optional[List[str]] = None) -> int:
     arguments = parse_arguments(given)
     with contextlib.closing(Log()) as log:
-        try:
+        # A fault is printed after the lines of the log.
+        with raising(SystemExit, "nagsched-monitor", MonitorFault, StatusUnavailable, NotStored, sqlite3.Error):
             if arguments.command is not None:
-                return {"test": test_site, "status": print_status, "drop-calls": drop_calls}.get(arguments.command, ask_monitor)(arguments)
+                own = {"test": test_site, "status": print_status, "remarks": print_remarks, "drop-calls": drop_calls}
+                return own.get(arguments.command, ask_monitor)(arguments)
             monitor = Monitor(arguments, log)
-        except (MonitorFault, StatusUnavailable, NotStored, OSError, sqlite3.Error) as fault:
-            sys.exit(f"nagsched-monitor: {fault}")  # which is printed after the lines of the log
         with contextlib.closing(monitor):
             return monitor.run()

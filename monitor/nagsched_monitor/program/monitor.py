@@ -1,16 +1,19 @@
 """The parts of a monitor and its actions around a turn: it logs changes, takes over another site, and ends."""
 import argparse
+import hashlib
 import os
+import pathlib
+import shutil
 import signal
 import time
 from dataclasses import replace
-from typing import Any, Callable, Dict, Generator, List, Optional, Sequence
+from typing import Any, Callable, Dict, Generator, List, Optional
 
 from ..core.engine import Engine
 from ..core.requests import Request
 from ..faults import ConversationEnded, MonitorFault, NotStored
 from ..inputs import control
-from ..model.clock import Clock, SystemClock
+from ..model.clock import Clock
 from ..outputs.changes import Notifier, change_line
 from ..outputs.sd_notify import ServiceManager
 from ..run.runners import RunnerPools, raise_file_limit
@@ -21,7 +24,6 @@ from ..store.store import Store, drop_changes_before
 from ..system import addresses
 from ..system.poller import FilePoller
 from ..system.processes import HelperProcess
-from .build_record import build_line
 from .loop import Loop
 from .site_reader import read_apart
 
@@ -32,17 +34,17 @@ BUSY_WAIT = 100
 START_TRIES, START_PAUSE = 10, 1.0
 # The files that a plugin needs of its runner, and the other files of a process.
 FILES_OF_PLUGIN, OTHER_FILES = 4, 100
+# The folder of the monitor's package: lib/nagsched of an installation, which has a file VERSION, or a folder of a checkout, which has it one level up.
+HOME = pathlib.Path(__file__).resolve().parents[2]
 
 
 class Monitor:
-    """A monitor of one site, while it runs."""
-
     def __init__(self, arguments: argparse.Namespace, log: Callable[[str], None]) -> None:
         self._folder, self._program, self.log = arguments.folder, arguments.program, log
         # The current reload, and the requests since it began: the files may have changed for them. SIGHUP may come before the site was read.
         self._reload: Optional[Generator[bool, None, None]] = None
         self._reload_requests: List[Request] = []
-        signal.signal(signal.SIGHUP, lambda *_: self._ask_for_reload(Request(b"", lambda answer: None)))
+        signal.signal(signal.SIGHUP, lambda *_: self._reload_requests.append(Request(b"", lambda answer: None)))
         self._service_manager = ServiceManager()
         self._file_limit = raise_file_limit()
         self._poller = FilePoller()
@@ -50,14 +52,16 @@ class Monitor:
         self._test_slots(site)
         self._outputs = outputs_of(arguments, site.options)
         self.store = Store(self._folder, self.log)
-        self.clock: Clock = SystemClock(self.store.last_moment())
+        if self._outputs.perfdata is not None:
+            self.store.open_spool()
+        self.clock = Clock(self.store.last_moment())
         if self._outputs.on_change is not None:
             test_change_command(self._outputs.on_change)
         self.scheduling = self._open_scheduling(site)
-        self.runners = RunnerPools(len(os.sched_getaffinity(0)), self.log, self._poller)
+        self.runners = RunnerPools(len(os.sched_getaffinity(0)), self.log, self._poller, files=lambda: [self.store.file.number])
         self.runners.set_remotes(site.runners)
-        self.engine = Engine(self.scheduling, self.runners, self.store, self.clock, self.log, self._ask_for_reload, self._stop)
-        self._notifier = Notifier(self._outputs.on_change, self.store, self.log, self.clock, self.engine.counters.count_change_aside)
+        self.engine = Engine(self.scheduling, self.runners, self.store, self.clock, self.log, self._reload_requests.append, lambda: self.loop.stop())
+        self._notifier = Notifier(self._outputs.on_change, self.store, self.log, self.clock, self.engine.counters)
         self._notifier.tell_new_command(self.engine.objects.values())
         self.control = control.ControlSocket(self._folder, self.engine.add_request, self._poller)
         self._helpers = self._make_helpers(self._outputs)
@@ -69,14 +73,19 @@ class Monitor:
     def _make_helpers(self, outputs: Options) -> List[HelperProcess]:
         """The processes next to the monitor that its options ask for."""
         folder, asked, link = str(self._folder), [], outputs.page_url or (f"http://{outputs.page}/" if outputs.page else "")
+        notifies = ["notifies"] if outputs.on_change is not None or outputs.alertmanager else []
         if outputs.nagios_files is not None:
-            asked.append(["outputs.nagios_files", folder, outputs.nagios_files, *(["notifies"] if outputs.on_change is not None else [])])
+            asked.append(["outputs.nagios_files", folder, outputs.nagios_files, *notifies])
+        if outputs.perfdata is not None:
+            asked.append(["outputs.perfdata", folder, outputs.perfdata])
         if outputs.page is not None:
             if not addresses.is_loopback(outputs.page):
                 self.log(f"the page on {outputs.page} is shown to everybody who reaches this address")
             asked.append(["outputs.page", outputs.page, folder, *[addresses.shown_url(url) for url in outputs.alertmanager[:1] or [""]], *outputs.page_name])
+        if outputs.livestatus is not None:
+            asked.append(["outputs.livestatus", outputs.livestatus, folder, *notifies])
         if outputs.textfile is not None:
-            asked.append(["outputs.textfile", folder, outputs.textfile])
+            asked.append(["outputs.metrics", folder, outputs.textfile])
         asked += [["outputs.alertmanager", url, folder, link] for url in outputs.alertmanager]
         return [HelperProcess(module, given, self.log) for module, *given in asked]
 
@@ -102,8 +111,6 @@ class Monitor:
             slots = f"monitor.json: slots: {site.options.slots} plugins may take {wanted} open files"
             raise MonitorFault(f"{slots}, and the limit is {self._file_limit}: raise it, or have fewer slots")
 
-    # ---- the loop
-
     def run(self) -> int:
         """Works until it is asked to stop; returns the exit status."""
         self._install_signal_handlers()
@@ -115,21 +122,14 @@ class Monitor:
         for obj in self.engine.objects.values():
             if obj.standing is not None and obj.standing.is_problem():
                 self.log(f"at the start {obj.name} is {obj.standing.state} {obj.standing.kind} {obj.standing.attempt}")
-        self._service_manager.notify_ready(f"{len(site.objects)} objects")
+        self._service_manager.notify(f"READY=1\nSTATUS={len(site.objects)} objects")  # `systemctl status` shows it
         return self.loop.run()
-
-    def _stop(self) -> None:
-        self.loop.stop()
-
-    def _ask_for_reload(self, request: Request) -> None:
-        self._reload_requests.append(request)
 
     def _log_changes(self) -> Optional[int]:
         """Logs the changes of the turn, and has the command run for them."""
         for change in self.scheduling.pop_changes():
             self.log(change_line(change, self.scheduling.site.options.zone))
-        self._notifier.work()
-        return BUSY_WAIT if self._notifier.is_busy() else None
+        return BUSY_WAIT if self._notifier.work() else None
 
     def _install_signal_handlers(self) -> None:
         """Each signal ends the waiting for files, by a byte that comes."""
@@ -137,7 +137,7 @@ class Monitor:
         signal.set_wakeup_fd(back, warn_on_full_buffer=False)
         self._poller.watch(there, lambda: os.read(there, 4_096))
         for number in (signal.SIGINT, signal.SIGTERM):
-            signal.signal(number, lambda *_: self._stop())
+            signal.signal(number, lambda *_: self.loop.stop())
 
     def _drop_old_changes(self) -> None:
         """Drops old changes, each hour but the first. A clock that jumped by more than a day drops nothing."""
@@ -150,8 +150,6 @@ class Monitor:
                 self.store.write(drop_changes_before(now - self.scheduling.site.options.keep_days * DAY))
             except NotStored as fault:
                 self.log(str(fault))
-
-    # ---- another site
 
     def _continue_reload(self) -> Optional[int]:
         """Continues the current reload, or begins one that was requested."""
@@ -166,7 +164,7 @@ class Monitor:
 
     def _take_over_site(self) -> Generator[bool, None, None]:
         """Has the site read, yielding True meanwhile, and takes it over. If it is faulty, the old one stays."""
-        asked, self._reload_requests = self._reload_requests, []
+        asked = [self._reload_requests.pop(0) for _ in self._reload_requests[:]]
         answer: Dict[str, Any] = {"error": "the monitor has a fault"}
         try:
             site = yield from read_apart(self._folder, self._program)
@@ -187,7 +185,7 @@ class Monitor:
 
     def close(self) -> None:
         """Ends: running plugins are killed, and their checks are abandoned at the next start."""
-        self._service_manager.notify_stopping()
+        self._service_manager.notify("STOPPING=1")
         self.control.close()
         if self._reload is not None:
             self._reload.close()  # ends its process
@@ -215,3 +213,22 @@ def outputs_of(arguments: argparse.Namespace, options: Options) -> Options:
     if outputs.page_url is not None and not outputs.page_url.endswith("/"):
         outputs = replace(outputs, page_url=f"{outputs.page_url}/")
     return outputs
+
+
+def own_version() -> str:
+    found = [file for file in (HOME / "VERSION", HOME.parent / "VERSION") if file.is_file()]
+    return found[0].read_text(encoding="utf-8").strip() if found else "of an unknown version: there is no file VERSION"
+
+
+def build_line(program: str) -> str:
+    """How the program was built, for the log. A record with the checksum of another program counts as none."""
+    path = pathlib.Path(shutil.which(program) or program).resolve()
+    name = f"{path.name}.build"
+    for file in (path.with_name(name), path.parent.parent / "share/nagsched" / name):
+        try:
+            found = dict(line.split(": ", 1) for line in file.read_text(encoding="utf-8").splitlines())
+            if found["sha256"] == hashlib.sha256(path.read_bytes()).hexdigest():
+                return f"{path} is version {found['version']}, commit {found['commit']}, {found['kit']}, {found['proofs']}"
+        except (OSError, ValueError, KeyError):
+            continue  # there is no such file, or it isn't a record
+    return f"{path}: no record says how it was built"

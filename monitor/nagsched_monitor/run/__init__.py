@@ -1,1 +1,0 @@
-"""Programs that run plugins: runners of this machine, and workers of a Gearman server."""

@@ -6,6 +6,7 @@ import struct
 import time
 from typing import Callable, Iterator, List, Optional, Tuple
 
+from ..faults import require, trouble_text
 from ..system.poller import FilePoller, write_ready
 
 # In bytes: the most that is read at once, and the longest packet. A longer one ends the connection.
@@ -26,8 +27,7 @@ class Code(enum.IntEnum):
 
 # The number of parts of each packet that comes from a server.
 PARTS = {Code.JOB_CREATED: 1, Code.JOB_ASSIGN: 3, Code.WORK_STATUS: 3, Code.WORK_COMPLETE: 2, Code.WORK_FAIL: 1, Code.ERROR: 2}
-# The code of a packet, and its parts.
-Packet = Tuple[int, List[bytes]]
+Packet = Tuple[int, List[bytes]]  # the code of a packet, and its parts
 
 
 class Server:
@@ -63,14 +63,13 @@ class Server:
                 self.is_lost, self._is_alive = False, True
                 yield packet
             if time.monotonic() - self._asked_at >= ECHO_EVERY:
-                if not self._is_alive:
-                    raise ConnectionError("it gives no answer")
+                require(self._is_alive, "it gives no answer", ConnectionError)
                 self.send(Code.ECHO_REQ, b"?")
                 self._asked_at, self._is_alive = time.monotonic(), False
             write_ready(self.connection.fileno(), self.unsent)
         except OSError as fault:  # there may be no room for a socket
             if not self.is_lost:
-                self._log(f"the server isn't reached: {fault}")
+                self._log(f"the server isn't reached: {trouble_text(fault)}")
             self.is_lost, self._not_before = True, time.monotonic() + RETRY
             self.disconnect()
 
@@ -79,13 +78,11 @@ class Server:
             data = connection.recv(READ_BYTES)
         except BlockingIOError:
             return
-        if not data:
-            raise ConnectionError("lost connection")
+        require(data, "lost connection", ConnectionError)
         self._unread += data
         while len(self._unread) >= HEADER.size:
             magic, code, size = HEADER.unpack_from(self._unread)
-            if magic != RESPONSE or size > LONGEST_PACKET:
-                raise ConnectionError("it isn't a Gearman server")
+            require(magic == RESPONSE and size <= LONGEST_PACKET, "it isn't a Gearman server", ConnectionError)
             if len(self._unread) < HEADER.size + size:
                 return
             body = bytes(self._unread[HEADER.size : HEADER.size + size])

@@ -4,6 +4,7 @@ Each job is answered once, or abandoned within a limit. If the connection is los
 """
 import argparse
 import collections
+import contextlib
 import json
 import os
 import pathlib
@@ -14,7 +15,7 @@ import time
 from functools import partial
 from typing import Any, Callable, Deque, Dict, Tuple
 
-from ..faults import MonitorFault
+from ..faults import MonitorFault, raising
 from ..model.jobs import Job, event_members, read_event
 from ..system.addresses import parse_address
 from ..system.log import Log
@@ -24,10 +25,8 @@ from .gearman_signing import JOB, RESULT, Signer, read_signer
 
 # In seconds: the delay of a result after its limit, and a job's longest wait for a worker.
 GRACE, WAIT = 15.0, 30.0
-# A turn that takes longer, in seconds, ends the process by SIGALRM, and the monitor starts another.
-STUCK = 30
-# Events within this time, in milliseconds, share a turn.
-TOGETHER = 5
+STUCK = 30  # a turn that takes longer, in seconds, ends the process by SIGALRM, and the monitor starts another
+TOGETHER = 5  # events within this time, in milliseconds, share a turn
 
 
 class Queue:
@@ -45,7 +44,6 @@ class Queue:
         self._taken: Dict[int, float] = {}
 
     def add_line(self, line: bytes) -> None:
-        """Takes the job of a line."""
         try:
             given = json.loads(line)
             job = Job("a job", int(given["job"]), list(map(str, given["words"])), float(given["limit"]))
@@ -79,7 +77,6 @@ class Queue:
         self._abandon_late()
 
     def _handle(self, number: int, code: int, data: bytes) -> None:
-        """Handles a packet about a job."""
         if code == Code.WORK_STATUS:
             self._taken.setdefault(number, time.monotonic() + self._pending[number][0].limit + GRACE)
         elif code == Code.WORK_FAIL:
@@ -141,7 +138,7 @@ def run(arguments: argparse.Namespace, log: Log) -> None:
         poller.sleep(TOGETHER)
 
 
-def main() -> int:
+def main() -> None:
     parser = argparse.ArgumentParser(prog="nagsched-gearman-runner", description="Hands jobs to a queue of a Gearman server.")
     parser.add_argument("server", metavar="ADDRESS:PORT", help="where gearmand listens")
     parser.add_argument("queue", metavar="QUEUE", help="the queue from which workers take the jobs")
@@ -150,11 +147,5 @@ def main() -> int:
     parser.add_argument("--unsigned", action="store_true", help="neither sign jobs nor want signed results")
     signal.signal(signal.SIGINT, signal.SIG_IGN)
     signal.signal(signal.SIGTERM, signal.SIG_IGN)
-    try:
+    with raising(SystemExit, parser.prog, MonitorFault), contextlib.suppress(BrokenPipeError):  # the monitor has ended
         run(parser.parse_args(), Log(2))
-    except BrokenPipeError:
-        pass  # the monitor has ended
-    except (MonitorFault, OSError) as fault:
-        print(f"nagsched-gearman-runner: {fault}", file=sys.stderr)
-        return 1
-    return 0

@@ -1,7 +1,6 @@
 """Signed messages between the monitor and its workers, and which jobs a worker accepts.
 
-A message is a document, preceded by its HMAC-SHA256 with a key from a file that both have.
-"""
+A message is a document, preceded by its HMAC-SHA256 with a key from a file that both have."""
 import hashlib
 import hmac
 import json
@@ -10,7 +9,7 @@ import pathlib
 import time
 from typing import Any, Callable, Dict, Optional, Sequence
 
-from ..faults import MonitorFault
+from ..faults import MonitorFault, raising, require
 from ..model.jobs import Job
 
 # The purpose of a message: a result can't be used as a job.
@@ -57,19 +56,13 @@ def read_signer(path: Optional[pathlib.Path], unsigned: bool) -> Signer:
     """The signer with the key in a file, which is its bytes without the space around them, or no signatures if the site says so.
 
     Raises `MonitorFault` unless it says one of the two, and if others may read the key or it is too short."""
-    if (path is not None) == unsigned:
-        raise MonitorFault("say --key FILE, or --unsigned: one of the two")
+    require((path is None) == unsigned, "say --key FILE, or --unsigned: one of the two", MonitorFault)
     if path is None:
         return Signer(None)
-    try:
-        with path.open("rb") as file:
-            mode, key = os.fstat(file.fileno()).st_mode, file.read(MOST_BYTES).strip()
-    except OSError as error:
-        raise MonitorFault(f"the key {path}: {error.strerror}") from None
-    if mode & 0o077:
-        raise MonitorFault(f"the key {path}: others may read it; chmod 600 makes it its owner's alone")
-    if len(key) < LEAST_KEY:
-        raise MonitorFault(f"the key {path}: it has to have {LEAST_KEY} bytes or more")
+    with raising(MonitorFault, f"the key {path}"), path.open("rb") as file:
+        mode, key = os.fstat(file.fileno()).st_mode, file.read(MOST_BYTES).strip()
+    require(not mode & 0o077, f"the key {path}: others may read it; chmod 600 makes it its owner's alone", MonitorFault)
+    require(len(key) >= LEAST_KEY, f"the key {path}: it has to have {LEAST_KEY} bytes or more", MonitorFault)
     return Signer(key)
 
 
@@ -87,25 +80,21 @@ class JobPolicy:
         arguments, limit = document.get("words"), number_in(document, "limit")
         if not isinstance(arguments, list) or not arguments or not all(isinstance(word, str) and "\0" not in word for word in arguments):
             raise Refusal("it has no command")
-        if not 0 < limit <= LONGEST:
-            raise Refusal("it has no limit")
+        require(0 < limit <= LONGEST, "it has no limit", Refusal)
         if self._signer.is_signing:
             self._accept_once(document)
         return Job(document["job"], 0, arguments, limit)
 
     def _accept_once(self, document: Dict[str, Any]) -> None:
         number, begin, end, now = document["job"], number_in(document, "time"), number_in(document, "until"), self._clock()
-        if not begin <= end <= begin + LONGEST:
-            raise Refusal("it has no time")
-        if document.get("queue") not in self._queues:
-            raise Refusal("it is of another queue")
+        require(begin <= end <= begin + LONGEST, "it has no time", Refusal)
+        require(document.get("queue") in self._queues, "it is of another queue", Refusal)
         if not begin - SKEW <= now <= end + SKEW:
             raise Refusal(f"its time is {now - begin:.0f} seconds from this machine's")
         if now - self._last_sweep >= SKEW:
             self._accepted = {each: until for each, until in self._accepted.items() if until >= now}
             self._last_sweep = now
-        if number in self._accepted:
-            raise Refusal("it was taken before")
+        require(number not in self._accepted, "it was taken before", Refusal)
         self._accepted[number] = end + SKEW
 
 

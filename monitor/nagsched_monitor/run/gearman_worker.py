@@ -1,15 +1,15 @@
 """A worker: it takes jobs from queues of a Gearman server, has their plugins run by a runner, and answers with their results."""
 import argparse
+import contextlib
 import pathlib
 import signal
 import socket
 import subprocess
-import sys
 import time
 from functools import partial
 from typing import Any, Callable, Dict, List, NamedTuple, Optional, Sequence
 
-from ..faults import MonitorFault
+from ..faults import MonitorFault, raising, require
 from ..model.jobs import Job, StuckJobEnded, event_members
 from ..system.addresses import parse_address
 from ..system.log import Log
@@ -17,13 +17,11 @@ from ..system.poller import FilePoller
 from ..system.processes import runner_command
 from .gearman import BUSY, IDLE, Code, Server, connect
 from .gearman_signing import JOB, RESULT, JobPolicy, Refusal, Signer, read_signer
-from .pool import RunnerPool
-from .runners import raise_file_limit
+from .runners import RunnerPool, raise_file_limit
 
 # In seconds: the delay after its limit at which a result is late, and the time that running plugins have to end when the worker stops.
 GRACE, STOPPING = 10.0, 10.0
-# The time between two log lines about refused jobs, in seconds.
-LOG_REFUSALS_EVERY = 60.0
+LOG_REFUSALS_EVERY = 60.0  # the time between two log lines about refused jobs, in seconds
 SLOTS, MOST_SLOTS = 32, 1_000
 
 
@@ -49,7 +47,6 @@ class Worker:
         self.is_stopping = False
 
     def turn(self) -> None:
-        """Does all the work that is due now."""
         self._end_jobs()
         for code, parts in self._server.turn():
             if code == Code.CONNECTED:
@@ -114,16 +111,12 @@ class Worker:
 
 
 def run(arguments: argparse.Namespace, log: Log) -> None:
-    """Makes the worker, and has it work."""
-    if not 1 <= arguments.slots <= MOST_SLOTS:
-        raise MonitorFault(f"--slots: it has to be a number from 1 to {MOST_SLOTS}")
+    require(1 <= arguments.slots <= MOST_SLOTS, f"--slots: it has to be a number from 1 to {MOST_SLOTS}", MonitorFault)
     place, signer, poller = parse_address(arguments.server, "server"), read_signer(arguments.key, arguments.unsigned), FilePoller()
     command = [*runner_command(), *([] if arguments.only is None else ["--only", str(arguments.only)])]
     raise_file_limit()
-    try:
+    with raising(MonitorFault, "its runner can't be started", subprocess.SubprocessError):
         subprocess.run(command, input=b"", timeout=10, check=True)
-    except (OSError, subprocess.SubprocessError) as error:
-        raise MonitorFault(f"its runner can't be started: {error}") from None
     runner = RunnerPool("worker", command, 1, None, 0.0, log, poller, time.monotonic)
     server = Server(partial(connect, place), poller, log)
     worker = Worker(server, arguments.queues, arguments.slots, signer, runner, log)
@@ -146,7 +139,7 @@ def run_worker(worker: Worker, server: Server, poller: FilePoller) -> None:
     worker.turn()
 
 
-def main(given: Optional[List[str]] = None) -> int:
+def main(given: Optional[List[str]] = None) -> None:
     parser = argparse.ArgumentParser(prog="nagsched-gearman-worker", description="Runs the plugins of a monitor's jobs from queues of a Gearman server.")
     parser.add_argument("server", metavar="ADDRESS:PORT", help="where gearmand listens")
     parser.add_argument("queues", metavar="QUEUE", nargs="+", help="a queue from which it takes jobs; those of the first one first")
@@ -154,11 +147,5 @@ def main(given: Optional[List[str]] = None) -> int:
     parser.add_argument("--key", type=pathlib.Path, metavar="FILE", help="take only jobs that are signed with the key of this file, and sign results with it")
     parser.add_argument("--unsigned", action="store_true", help="take every job; who reaches the server runs what --only allows")
     parser.add_argument("--only", type=pathlib.Path, metavar="FILE", help="run only command lines that fit a pattern of this file")
-    log = Log()
-    try:
+    with raising(SystemExit, parser.prog, MonitorFault), contextlib.closing(Log()) as log:
         run(parser.parse_args(given), log)
-    except MonitorFault as fault:
-        print(f"nagsched-gearman-worker: {fault}", file=sys.stderr)
-        return 1
-    log.close()
-    return 0

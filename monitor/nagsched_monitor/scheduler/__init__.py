@@ -1,1 +1,0 @@
-"""The schedulers of a site: processes of `nagsched live`, and their answers."""

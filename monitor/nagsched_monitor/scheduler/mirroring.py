@@ -2,20 +2,27 @@
 
 Every mirror is running all the time: after each of its results it is taken again, by a check that is forced and comes before all others. So a result and
 those of its mirrors are calls of one turn, which are stored together.
-"""
-from typing import AbstractSet, Any, List, Mapping, Optional, Sequence, Set, Tuple
 
-from ..model.object_state import MIRROR_FIRST
-from ..model.protocol import Answer, Call, Report, Reschedule, Take, Taken, object_name
-from ..model.run_table import ObjectKey, Owner, Run, RunTable
+When a site gets other parts, the states of all its schedulers are combined, and each part continues from its share."""
+import json
+import subprocess
+from typing import AbstractSet, Any, Dict, List, Mapping, Optional, Sequence, Set, Tuple
 
-# A call, its part, and the output of the plugin that it reports.
-PlannedCall = Tuple[int, Call, Optional[str]]
+from ..faults import MonitorFault, raising, require
+from ..model.objects import MIRROR_FIRST, ObjectKey, Owner, Run, RunTable
+from ..model.protocol import ENCODER, Answer, Call, Report, Reschedule, Take, Taken, object_name
+from ..site.site import Site
+
+Member = Dict[str, Any]
+PlannedCall = Tuple[int, Call, Optional[str]]  # a call, its part, and the output of the plugin that it reports
+# The members of a mirror that differ from its original's.
+NEVER_CHECKED = {
+    "run": None, "forced": False, "next_check": None, "enabled": False, "enabled_in_setup": False, "check_interval": 0,
+}
+LIMIT = 60.0  # the limit for the program's test of a state, in seconds
 
 
 class Mirrors:
-    """The mirrors of a site, by their parts and names."""
-
     def __init__(self, names: Mapping[int, AbstractSet[str]], running: RunTable) -> None:
         self.names, self._running = names, running
         self._expected: Set[ObjectKey] = set()
@@ -75,3 +82,48 @@ class Mirrors:
 def forced_take(part: int, name: str, time: int, now: int) -> List[PlannedCall]:
     """The calls that take an object before all that are due; the time decides about the order of such objects."""
     return [(part, Reschedule(name, time, True), None), (part, Take(now), None)]
+
+
+def merge_states(states: Mapping[int, bytes], mirrored: Mapping[int, AbstractSet[str]], site: Site, moment: int) -> Dict[int, bytes]:
+    """The state from which each part of a site begins, from the states of the schedulers of the current parts, and the names of their mirrors.
+
+    A mirror has the state of its original. Run numbers continue from the greatest number of all parts, so that no late result fits a run of another part."""
+    saved = {part: json.loads(state) for part, state in states.items()}
+    runs = max(document["runs"] for document in saved.values())
+    found: Dict[str, Tuple[int, Member]] = {
+        it["name"]: (part, it) for part, document in saved.items() for it in document["objects"] if it["name"] not in mirrored.get(part, ())
+    }
+    members: Dict[int, List[Member]] = {part: [] for part in range(len(site.setups))}
+    for name, definition in site.objects.items():
+        if name in found:
+            part, member = found[name]
+            members[definition.part].append(member if part == definition.part else without_run(member, moment))
+    for part, names in site.mirrors.items():
+        members[part].extend({**found[name][1], **NEVER_CHECKED} for name in sorted(names) if name in found)
+    return {part: ENCODER.encode({"format": 1, "objects": of_part, "runs": runs, "start": moment}).encode() for part, of_part in members.items()}
+
+
+def without_run(member: Member, moment: int) -> Member:
+    """An object whose run, if there is one, is abandoned at a moment."""
+    if member["run"] is None:
+        return member
+    return {**member, "run": None, "next_check": moment if member["next_check"] is None else member["next_check"]}
+
+
+def carry_over(program: str, site: Site, part: int, state: bytes) -> List[str]:
+    """The changes that the setup of a part makes to saved objects, a line each; mirrors change as their originals do.
+
+    If the setup or the state is refused, it is a fault, and nothing has changed."""
+    given = site.setups[part] + b"\n" + state + b"\n"
+    with raising(MonitorFault, "the saved state can't be tested", subprocess.TimeoutExpired):
+        ran = subprocess.run([program, "check", "--resume"], input=given, stdout=subprocess.PIPE, check=False, timeout=LIMIT)
+    lines = ran.stdout.decode(errors="replace").splitlines()
+    require(not ran.returncode, f"the saved state can't be taken over: {'; '.join(lines)}", MonitorFault)
+    mirrors = site.mirrors.get(part, frozenset())
+    return [line for line in lines if is_told_change(line, mirrors)]
+
+
+def is_told_change(line: str, mirrors: AbstractSet[str]) -> bool:
+    """Whether a line of a check names a change of an object that isn't a mirror, or abandoned runs."""
+    word, _, rest = line.partition(" ")
+    return word == "changed" and rest.partition(" ")[2] not in mirrors or word == "given_up" and rest != "0"

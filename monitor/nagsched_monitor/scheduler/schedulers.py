@@ -1,18 +1,27 @@
-"""The process of a part's scheduler. A scheduler that ends is started again from the stored calls, so that its callers don't notice.
+"""The scheduler of a part: a process of `nagsched live`, which answers each line. Every wait for it has a limit. A scheduler that ends is started again
+from the stored calls, so that its callers don't notice.
 
 A call is made once: it waits until its scheduler has answered it. A scheduler that is started again makes the stored calls before it again, which gives the
-same runs. A call after which a scheduler ends twice, if it is the only one that was sent, is set aside.
-"""
+same runs. A call after which a scheduler ends twice, if it is the only one that was sent, is set aside."""
 import collections
+import os
+import select
+import subprocess
+import time
 from typing import Callable, Deque, List, Optional, Sequence, Tuple, TypeVar
 
-from ..faults import ConversationEnded, NotStored
+from ..faults import ConversationEnded, NotStored, raising, require
 from ..model.clock import Clock
 from ..model.protocol import Answer, Call, Refused, call_line, read_answer
 from ..store.rows import Generation, StoredCall
 from ..store.store import Store, insert
-from .live_process import AT_ONCE, Conversation
+from ..system.poller import write_ready
+from ..system.processes import end_process
 
+READ_BYTES = 65_536
+# How long a scheduler may be silent while an answer is due, in seconds: for the first, which follows the setup and the saved state, and for any other.
+OPENING, SILENCE = 30.0, 15.0
+AT_ONCE = 4_096  # the most lines that are sent together
 # How often a scheduler is restarted in one exchange, and the pause before the next exchange does so, in milliseconds.
 TRIES = 3
 PAUSE = 1_000
@@ -22,9 +31,87 @@ MOST_ENDS = 2
 # A line that a scheduler refuses, and that changes nothing: its answer shows that the scheduler works.
 PING = '["ping"]'
 
-ConversationFactory = Callable[[str, bytes, int, Optional[bytes]], Conversation]
 Value = TypeVar("Value")
 AnsweredCall = Tuple[StoredCall, Answer]
+
+
+class Conversation:
+    def __init__(self, program: str, setup: bytes, start: int, saved: Optional[bytes] = None) -> None:
+        words = [program, "live", *([] if saved is None else ["--resume"]), "--start", str(start)]
+        with raising(ConversationEnded, f"{program} can't be started"):
+            # In a session of its own: a Ctrl-C in the terminal is for the monitor, which saves the state before it ends.
+            self._process = subprocess.Popen(words, stdin=subprocess.PIPE, stdout=subprocess.PIPE, bufsize=0, start_new_session=True)
+        assert self._process.stdin is not None and self._process.stdout is not None
+        self._input, self._output = self._process.stdin.fileno(), self._process.stdout.fileno()
+        os.set_blocking(self._input, False)
+        os.set_blocking(self._output, False)
+        self._unsent = bytearray(setup + b"\n" + (b"" if saved is None else saved + b"\n"))
+        self._unanswered = 0
+        self._patience = OPENING
+
+    def ask_lines(self, lines: Sequence[str]) -> List[str]:
+        """Sends these lines, a number of them together, and returns the lines that answer them."""
+        answers: List[str] = []
+        for first in range(0, len(lines), AT_ONCE):
+            self.begin(lines[first : first + AT_ONCE])
+            answers += self.finish()
+        return answers
+
+    def begin(self, lines: Sequence[str]) -> None:
+        """Sends as much of these lines as there is room for now."""
+        self._unsent += "\n".join(lines).encode() + b"\n"
+        self._unanswered += len(lines)
+        self._write()
+
+    def finish(self) -> List[str]:
+        """The answers to all lines whose sending has begun. There can't be more answers, since each answers a line that was sent."""
+        parts: List[bytes] = []
+        deadline = time.monotonic() + self._patience
+        while self._unanswered > 0:
+            waited = select.poll()
+            waited.register(self._output, select.POLLIN)
+            if self._unsent:
+                waited.register(self._input, select.POLLOUT)
+            ready = dict(waited.poll(max(0.0, deadline - time.monotonic()) * 1000))
+            require(ready, f"the scheduler gave no answer for {self._patience:g} seconds", ConversationEnded)
+            if self._input in ready:
+                self._write()
+            if self._output in ready:
+                parts.append(self._read(parts))
+                self._patience = SILENCE
+                deadline = time.monotonic() + SILENCE
+        lines = b"".join(parts)
+        if self._unanswered < 0 or lines and not lines.endswith(b"\n"):
+            raise ConversationEnded(f"the scheduler answered more than it was asked: {lines[-READ_BYTES:].decode(errors='replace')!r}")
+        return lines.decode(errors="replace").split("\n")[:-1]
+
+    def save(self) -> bytes:
+        word, _, state = self.ask_lines(['["save"]'])[0].partition(" ")
+        require(word == "saved", f"the scheduler answered {word} {state} to a save", ConversationEnded)
+        return state.encode()
+
+    def close(self, is_killed: bool = False) -> None:
+        """Ends the scheduler's process: it is killed at once, or if it doesn't end with its input."""
+        if is_killed:
+            self._process.kill()
+        end_process(self._process)
+
+    def _write(self) -> None:
+        try:
+            write_ready(self._input, self._unsent)
+        except BrokenPipeError:
+            self._unsent.clear()  # it has ended, and its last lines say why
+
+    def _read(self, before: Sequence[bytes]) -> bytes:
+        part = os.read(self._output, READ_BYTES)
+        if not part:
+            words = b"".join(before).decode(errors="replace").rstrip("\n")
+            raise ConversationEnded(f"the scheduler ended with status {end_process(self._process)}: {words}")
+        self._unanswered -= part.count(b"\n")
+        return part
+
+
+ConversationFactory = Callable[[str, bytes, int, Optional[bytes]], Conversation]
 
 
 class PartScheduler:
@@ -39,12 +126,10 @@ class PartScheduler:
         # Its fault, when the fault was last logged, and the moment before which it isn't started again.
         self.trouble: Optional[str] = None
         self._logged_at = self._not_before = 0
-        # The lines of the pending calls that were sent.
-        self._sent: List[str] = []
+        self._sent: List[str] = []  # the lines of the pending calls that were sent
         # The last of the calls that were sent when the scheduler ended: up to this one each is sent alone. How often it ended after which call alone.
         self._alone_until = self._suspect = self._end_count = 0
-        # The number of calls that were made again when it was started last.
-        self.replayed = 0
+        self.replayed = 0  # the number of calls that were made again when it was started last
 
     def begin(self) -> None:
         """Sends pending calls, if the scheduler runs and may get several of them together."""

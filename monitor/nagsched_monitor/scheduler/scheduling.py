@@ -1,25 +1,40 @@
 """The schedulers of a site and their answers: calls are first stored together, then made together, and then their answers are applied."""
 import json
-from typing import AbstractSet, Callable, Dict, List, Mapping, NamedTuple, Optional, Sequence
+from dataclasses import dataclass, field
+from typing import AbstractSet, Callable, Dict, List, Mapping, NamedTuple, Optional, Sequence, Set
 
 from ..faults import ConversationEnded, NotStored
 from ..model.clock import Clock
-from ..model.object_state import FIRST_TIME, ObjectState, ObjectStates
+from ..model.objects import FIRST_TIME, ObjectKey, ObjectState, ObjectStates
 from ..model.protocol import Answer, Call, Report, Standing, Status, call_line, object_name, read_call
-from ..model.run_table import ObjectKey
 from ..site.json_files import members_by_name
 from ..site.site import Site
 from ..store.rows import Generation, StoredCall, StoredChange
+from ..store.generations import begin_generations, save_generation
+from ..store.remark_table import RemarkTable
 from ..store.status_table import StandingTable
-from ..store.store import Store, Write, begin_generations, save_generation, store_calls, store_change
-from . import migration
-from .changes import change_document, is_change, is_important
-from .live_process import Conversation
-from .mirroring import Mirrors, PlannedCall
-from .schedulers import ConversationFactory, PartScheduler
+from ..store.store import Store, Write, store_calls, store_change
+from .mirroring import Mirrors, PlannedCall, carry_over, merge_states
+from .schedulers import Conversation, ConversationFactory, PartScheduler
 
-# The number of calls made again after which a part is saved at once.
-LONG_REPLAY = 5_000
+LONG_REPLAY = 5_000  # the number of calls made again after which a part is saved at once
+
+
+@dataclass
+class Plan:
+    """The plan of a turn: one list of calls, with everything that is written with them. Then the actions after all of it is stored, and after the calls were
+    answered."""
+
+    calls: List[PlannedCall] = field(default_factory=list)
+    writes: List[Write] = field(default_factory=list)
+    then: List[Callable[[], None]] = field(default_factory=list)
+    last: List[Callable[[], None]] = field(default_factory=list)
+    # Plugins that end with this plan, and the objects whose next checks it sets to now, and to later.
+    freed: int = 0
+    at_once: Set[str] = field(default_factory=set)
+    later: Set[str] = field(default_factory=set)
+    # The objects whose next checks are set by requests: nothing else sets them in this turn.
+    requested: Set[str] = field(default_factory=set)
 
 
 class ObjectAnswer(NamedTuple):
@@ -39,22 +54,19 @@ class Scheduling:
         self.states = ObjectStates()
         self.mirrors = Mirrors({}, self.states.running)
         self.parts: Dict[int, PartScheduler] = {}
-        # Writes that wait for the next calls.
-        self._pending_writes: List[Write] = []
+        self._pending_writes: List[Write] = []  # writes that wait for the next calls
         self._standings = StandingTable(store, clock)
+        self.remarks = RemarkTable(store, clock, log)
         self._new_changes: List[StoredChange] = []
-        # Whether there are objects whose states aren't known yet.
-        self._has_unknown = False
+        self._has_unknown = False  # whether there are objects whose states aren't known yet
         # The changes that were stored before this monitor started: answers that come again are no changes.
         self._stored_changes: AbstractSet[int] = frozenset()
 
-    # ---- opening
-
     def open(self) -> None:
-        """Opens the scheduler of each part, with its stored calls."""
         generations = self._store.generations()
         self.states.change_site(self.site.objects, self._clock.moment())
         self._standings.read(self.states.objects)
+        self.remarks.read()
         self.mirrors = Mirrors({part: generation.mirrors for part, generation in generations.items()}, self.states.running)
         self._stored_changes = self._store.changes_after(min((generation.last_call for generation in generations.values()), default=0))
         self._open_parts(generations, generations.keys())
@@ -136,6 +148,7 @@ class Scheduling:
         others = {part for part, setup in wanted.items() if opened.get(part) != setup}
         changed = self._begin_parts(site, others) if opened != wanted else []
         self.site = site
+        self.remarks.take_over(site.remarks)
         self.states.change_site(site.objects, self._clock.moment())
         for part in sorted(others):
             self._read_state(part, self.parts[part].generation.saved)
@@ -148,8 +161,8 @@ class Scheduling:
         """Begins these parts of a site from scratch, from the combined states; the others continue from theirs. All earlier calls are dropped."""
         states = {part: scheduler.state() for part, scheduler in self.parts.items()}
         moment, last_call = self._clock.moment(), self._store.last_call
-        begun = migration.merge_states(states, self.mirrors.names, site, moment) if states and others else {}
-        changed = [line for part in sorted(begun.keys() & others) for line in migration.carry_over(self._program, site, part, begun[part])]
+        begun = merge_states(states, self.mirrors.names, site, moment) if states and others else {}
+        changed = [line for part in sorted(begun.keys() & others) for line in carry_over(self._program, site, part, begun[part])]
         generations = {
             part: Generation(part, setup, moment, begun.get(part), last_call, site.mirrors.get(part, frozenset()))
             if part in others else self.parts[part].generation._replace(saved=states[part], last_call=last_call)
@@ -162,16 +175,15 @@ class Scheduling:
 
     def _write(self, *writes: Write) -> None:
         """Writes these, with all that waits to be written."""
-        self._store.write(*self._pending_writes, *self._standings.writes(), *writes)
+        self._store.write(*self._pending_writes, *self._standings.writes(), *self.remarks.writes(), *writes)
         self._pending_writes = []
         self._standings.clear_marks()
+        self.remarks.clear_marks()
 
     def _read_state(self, part: int, state: Optional[bytes]) -> List[str]:
         """Reads a scheduler's state, which counts. Returns the names of the objects whose known switch, forced mark, next check or run was different."""
         members = [] if state is None else json.loads(state)["objects"]
         return self.states.apply_saved(self.mirrors.apply_saved(part, members))
-
-    # ---- calls
 
     def is_open(self, part: int) -> bool:
         """Whether calls of a part can be made now: its scheduler has answered all earlier ones."""
@@ -185,12 +197,14 @@ class Scheduling:
 
     def store_calls(self, planned: Sequence[PlannedCall], writes: Sequence[Write] = ()) -> None:
         """Stores these calls with the other writes; the next `make_calls` makes them. If something can't be stored, nothing is, and `NotStored` is raised."""
-        if planned or writes or self.has_more():
-            first = self._store.last_call + 1
-            calls = [StoredCall(number, part, call_line(call), words, call) for number, (part, call, words) in enumerate(planned, first)]
-            self._write(*writes, store_calls([stored[1:4] for stored in calls]))
-            for stored in calls:
-                self.parts[stored.part].pending.append(stored)
+        self.remarks.settle(self.states.objects)
+        if not planned and not writes and not self.has_more():
+            return self._store.file.test()
+        first = self._store.last_call + 1
+        calls = [StoredCall(number, part, call_line(call), words, call) for number, (part, call, words) in enumerate(planned, first)]
+        self._write(*writes, store_calls([stored[1:4] for stored in calls]))
+        for stored in calls:
+            self.parts[stored.part].pending.append(stored)
 
     def make_calls(self) -> List[ObjectAnswer]:
         """Makes the stored calls, and returns the answers. Calls of a scheduler that can't be started now are made later."""
@@ -220,40 +234,52 @@ class Scheduling:
         self.states.apply_answer(obj, call, answer)
         if isinstance(call, Report) and isinstance(answer, Standing):
             obj.output = stored.words or ""
+            if not is_again:
+                self.remarks.settle_object(obj.name, obj)
             self._note_change(stored.id, obj, before, answer)
         if not is_again:
             self._standings.apply_answer(obj, call, answer, run)
         return ObjectAnswer(call, answer, obj, before)
 
     def _note_change(self, number: int, obj: ObjectState, before: Optional[Standing], answer: Standing) -> None:
-        if number in self._stored_changes or not is_change(before, answer):
+        if number in self._stored_changes or not answer.is_change(before):
             return
         change = StoredChange(number, self._clock.wall(), obj.name, answer.state, answer.kind, answer.attempt, answer.flapping, obj.output)
-        document = change_document(change, before) if self.has_command and is_important(before, answer) else None
+        held = {"held": True} if self.remarks.is_held(obj.name) else {}
+        document = change.document(before, None, **held) if self.has_command and answer.is_important(before) else None
         self._pending_writes.append(store_change(change, document, self._clock.moment()))
         self._new_changes.append(change)
 
     def pop_changes(self) -> List[StoredChange]:
-        """The changes since the last call."""
         printed, self._new_changes = self._new_changes, []
         return printed
 
     def has_more(self) -> bool:
-        return bool(self._pending_writes) or self._standings.is_overdue()
-
-    # ---- saving and ending
+        return bool(self._pending_writes) or self._standings.is_overdue() or self.remarks.has_changes()
 
     def save(self, number: int) -> None:
         """Saves the state of a part's scheduler, and drops the calls that are part of all saved states."""
         state = self.parts[number].state()
         for name in self._read_state(number, state):
             self._log(f"{name}: its scheduler has it otherwise than the monitor had; the scheduler counts")
-        self._standings.write_soon()
+        self._standings.write_soon({})
         part = self.parts[number]
         generation = part.generation._replace(saved=state, last_call=self._store.last_call)
         others = [each.generation.last_call for each in self.parts.values() if each is not part]
         self._write(save_generation(generation, min(others, default=generation.last_call)))
         part.generation = generation
+
+    def renew_database(self, *writes: Write) -> None:
+        """Has a new database written, with the states of all schedulers and objects, and with these writes. Raises `ConversationEnded` or `NotStored`."""
+        last_call = self._store.last_call
+        generations = {number: part.generation._replace(saved=part.state(), last_call=last_call) for number, part in self.parts.items()}
+        self._standings.write_soon(self.states.objects)
+        self._store.renew(begin_generations(generations.values()), *writes, *self._pending_writes, *self._standings.writes(), *self.remarks.rows())
+        self._pending_writes = []
+        self._standings.clear_marks()
+        self.remarks.clear_marks()
+        for number, generation in generations.items():
+            self.parts[number].generation = generation
 
     def pop_long_replay(self) -> Optional[int]:
         """A part that made many calls again and can be saved, so that the next start doesn't make them again. Each such start is returned once."""

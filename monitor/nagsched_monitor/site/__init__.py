@@ -1,1 +1,0 @@
-"""The files of a site, read and tested."""

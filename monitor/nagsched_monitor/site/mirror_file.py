@@ -1,15 +1,12 @@
 """Mirrors: objects of one part that are in another part too, because its objects need them as a parent, as their host or as a master.
 
-    {"part-2": {"gateway": "part-1", "gateway;ping": "part-1"}}
-
-in `mirrors.json` means that these two objects of `part-2.json` are mirrors of those of `part-1.json`. A mirror is never checked: it is off, and its
-intervals are 0. Each result of its original is reported to it too.
-"""
+`docs/scaling.md` describes their file, mirrors.json. A mirror is never checked. Each result of its original is reported to it too."""
 import collections
 import pathlib
 from typing import AbstractSet, Any, Dict, FrozenSet, Mapping, Sequence, Set, Tuple
 
-from .json_files import members_by_name, members_of, read_object, require
+from ..faults import require
+from .json_files import members_by_name, members_of, read_object
 
 FILE = "mirrors.json"
 NEVER = {"enabled": False, "check_interval": 0, "retry_interval": 0}

@@ -7,10 +7,10 @@ import calendar
 import datetime
 import graphlib
 import re
-from typing import Dict, List, Mapping, NamedTuple, Optional, Sequence, Tuple, Union
+from typing import Any, Dict, List, Mapping, NamedTuple, Optional, Sequence, Tuple, Union
 
-from ..faults import SiteFault
-from .json_files import members_of, read_whole, require
+from ..faults import SiteFault, require
+from .json_files import ANY, LIST, NAMES, Form, members_of, one_of, whole
 
 WEEKDAYS = ("monday", "tuesday", "wednesday", "thursday", "friday", "saturday", "sunday")
 CLOCK_TIMES = re.compile(r"(\d\d):(\d\d)-(\d\d):(\d\d)")
@@ -18,11 +18,21 @@ DATE = re.compile(r"\d{4}-\d\d-\d\d")
 
 # The members of a day without a year, in the order in which dates count if several fit, and the limits of those that are numbers.
 KINDS = ({"month", "day"}, {"day"}, {"month", "weekday", "nth"}, {"weekday", "nth"})
-LIMITS = {"month": (1, 12), "day": (-31, 31), "nth": (-5, 5)}
-MOST_STEP = 36_525
 
-# From a minute of the day up to another, which is excluded.
-Minutes = Tuple[int, int]
+
+def counted(most: int) -> Form:
+    return Form(f"a whole number from 1 to {most}, or from -1 to -{most} to count backwards", lambda value: type(value) is int and 1 <= abs(value) <= most)
+
+
+# The members of a period, of a range of days, and of a day without a year.
+PERIOD = {
+    "weekdays": Form("an object with members from monday to sunday", lambda value: isinstance(value, dict) and set(value) <= set(WEEKDAYS)),
+    "dates": LIST, "exclude": NAMES,
+}
+RANGE = {"first": ANY, "last": ANY, "step": whole(1, 36_525)}
+DAY = {"month": whole(1, 12), "day": counted(31), "nth": counted(5), "weekday": one_of(WEEKDAYS)}
+
+Minutes = Tuple[int, int]  # from a minute of the day up to another, which is excluded
 
 
 class DayOfMonth(NamedTuple):
@@ -98,9 +108,6 @@ class Periods:
         return {name: self.includes(name, wall) for name in self._periods}
 
 
-# ---- reading
-
-
 def read_periods(document: Mapping[str, object], file: str) -> Dict[str, Period]:
     """The periods of a document, after a test: each excluded name exists, and no period excludes itself."""
     periods = {name: read_period(members, f"{file}: period {name}") for name, members in document.items()}
@@ -115,20 +122,15 @@ def read_periods(document: Mapping[str, object], file: str) -> Dict[str, Period]
 
 
 def read_period(members: object, place: str) -> Period:
-    document = members_of(members, place, ("weekdays", "dates", "exclude"))
-    weekdays, dates, excluded = document.get("weekdays", {}), document.get("dates", []), document.get("exclude", [])
-    require(isinstance(weekdays, dict) and set(weekdays) <= set(WEEKDAYS), f"{place}: weekdays has the members monday to sunday and no other")
-    are_lists = isinstance(dates, list) and isinstance(excluded, list) and all(isinstance(other, str) for other in excluded)
-    require(are_lists, f"{place}: dates and exclude are lists")
-    times_of = {WEEKDAYS.index(day): read_times(texts, f"{place}: {day}") for day, texts in weekdays.items()}
-    read = [read_dates(each, f"{place}: date {index}") for index, each in enumerate(dates)]
-    return Period(times_of, sorted(read, key=lambda dates: dates.rank), excluded)
+    document = members_of(members, place, PERIOD)
+    times_of = {WEEKDAYS.index(day): read_times(texts, f"{place}: {day}") for day, texts in document.get("weekdays", {}).items()}
+    read = [read_dates(each, f"{place}: date {index}") for index, each in enumerate(document.get("dates", []))]
+    return Period(times_of, sorted(read, key=lambda dates: dates.rank), document.get("exclude", []))
 
 
-def read_times(texts: object, place: str) -> List[Minutes]:
+def read_times(texts: Any, place: str) -> List[Minutes]:
     """Times such as 09:00-17:00, which end at 24:00 at the latest."""
-    if not isinstance(texts, list):
-        raise SiteFault(f"{place}: times are a list of texts such as 09:00-17:00")
+    require(LIST.fits(texts), f"{place}: times are a list of texts such as 09:00-17:00")
     times = []
     for text in texts:
         match = CLOCK_TIMES.fullmatch(str(text))
@@ -148,14 +150,14 @@ def read_dates(members: object, place: str) -> Dates:
     if "first" not in days:
         rank, day = read_day(days, place)
         return Dates(rank, day, day, 1, times)
-    members_of(days, place, ("first", "last", "step"))
+    members_of(days, place, RANGE)
     rank, first = read_day(days["first"], f"{place}: first")
     has_end = "last" in days or rank > 0 or "step" not in days
     last_rank, last = read_day(days.get("last"), f"{place}: last") if has_end else (0, datetime.date.max)
     require(rank == last_rank, f"{place}: first and last have to be days of the same form")
     is_in_order = not isinstance(first, datetime.date) or not isinstance(last, datetime.date) or first <= last
     require(is_in_order, f"{place}: its last day comes before its first")
-    return Dates(rank, first, last, read_whole(days.get("step", 1), f"{place}: step", 1, MOST_STEP), times)
+    return Dates(rank, first, last, days.get("step", 1), times)
 
 
 def read_day(value: object, place: str) -> Tuple[int, Day]:
@@ -165,10 +167,8 @@ def read_day(value: object, place: str) -> Tuple[int, Day]:
             return 0, datetime.date.fromisoformat(value)
         except ValueError:
             raise SiteFault(f"{place}: there is no day {value}") from None
-    if not isinstance(value, dict) or set(value) not in KINDS or value.get("weekday", WEEKDAYS[0]) not in WEEKDAYS:
+    if not isinstance(value, dict) or set(value) not in KINDS:
         raise SiteFault(f"{place}: a day is a date such as 2026-12-24, or has day and perhaps month, or weekday, nth and perhaps month")
-    for member in value.keys() & LIMITS.keys():
-        read_whole(value[member], f"{place}: {member}", *LIMITS[member])
-        require(value[member] != 0, f"{place}: {member} counts from 1, or from -1 backwards")
+    members_of(value, place, DAY)
     weekday = WEEKDAYS.index(value["weekday"]) if "weekday" in value else None
     return KINDS.index(set(value)) + 1, DayOfMonth(value["nth"] if "nth" in value else value["day"], weekday, value.get("month"))

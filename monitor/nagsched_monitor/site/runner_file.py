@@ -1,20 +1,17 @@
-"""Runners elsewhere, and the objects that they check: the file runners.json of a site.
-
-    {"runners": {"dmz": ["ssh", "dmz", "nagsched-runner"]}, "objects": {"dmz": ["dmz-*", "hostgroup:branch"]}, "slots": {"dmz": 20}, "wait": 30}
-"""
+"""Runners elsewhere, and the objects that they check: the file runners.json of a site, which `docs/scaling.md` describes."""
 import fnmatch
 import pathlib
 import re
 from typing import Any, Dict, Iterable, List, Mapping, NamedTuple, Tuple
 
+from ..faults import require
 from ..system.processes import find_program
-from .groups_file import Groups
-from .json_files import members_of, read_object, read_seconds, read_whole, require
+from .json_files import ANY, NAMES, members_of, read_object, seconds, test_members, whole
+from .people_files import Groups
 
 FILE = "runners.json"
 NAME = re.compile(r"[A-Za-z0-9_.-]{1,64}")
-# The name of the runners of this machine, in figures.
-LOCAL = "local"
+LOCAL = "local"  # the name of the runners of this machine, in figures
 # The default number of checks that a runner has at once, and the default wait for it, in seconds.
 SLOTS, WAIT, MOST_SLOTS = 32, 30.0, 10_000
 GROUP_KINDS = {"hostgroup": "host_groups", "servicegroup": "service_groups"}
@@ -31,37 +28,37 @@ class Remote(NamedTuple):
 
 def read_runners(folder: pathlib.Path, names: Iterable[str], groups: Mapping[str, Groups]) -> Tuple[Dict[str, Remote], Dict[str, str]]:
     """The runners of a site, and the runner of each object that has one: the first with a pattern that fits it."""
-    members = read_object(folder, FILE, ("runners", "objects", "slots", "wait"))
-    commands, objects, slots = (members_of(members.get(member, {}), f"{FILE}: {member}") for member in ("runners", "objects", "slots"))
-    wait = read_seconds(members.get("wait", WAIT), f"{FILE}: wait")
-    for member, of in (("objects", objects), ("slots", slots)):
+    members = read_object(folder, FILE, {"runners": ANY, "objects": ANY, "slots": ANY, "wait": seconds()})
+    commands = members_of(members.get("runners", {}), f"{FILE}: runners")
+    remotes = {name: read_remote(name, arguments) for name, arguments in commands.items()}
+    objects, slots = (members_of(members.get(member, {}), f"{FILE}: {member}") for member in ("objects", "slots"))
+    for member, of, form in (("objects", objects, NAMES), ("slots", slots, whole(1, MOST_SLOTS))):
         for name in of:
             require(name in commands, f"{FILE}: {member}: {name}: there is no such runner")
-    remotes = {name: read_remote(name, arguments, slots.get(name, SLOTS), wait) for name, arguments in commands.items()}
+        test_members(of, dict.fromkeys(of, form), f"{FILE}: {member}: ")
     by_host: Dict[str, List[str]] = {}
     for name in names:
         by_host.setdefault(name.partition(";")[0], []).append(name)
     runner_of: Dict[str, str] = {}
     for runner, patterns in objects.items():
-        is_list = isinstance(patterns, list) and patterns and all(isinstance(each, str) and each for each in patterns)
-        require(is_list, f"{FILE}: objects: {runner}: it has to be a list of patterns")
+        require(patterns, f"{FILE}: objects: {runner}: its list is empty")
         for pattern in patterns:
             fitting = matching_objects(pattern, by_host, groups)
             require(fitting, f"{FILE}: objects: {runner}: no object fits {pattern}")
             runner_of.update((name, runner) for name in fitting if name not in runner_of)
-    return remotes, runner_of
+    wait = members.get("wait", WAIT)
+    return {name: remote._replace(slots=slots.get(name, SLOTS), wait=wait) for name, remote in remotes.items()}, runner_of
 
 
-def read_remote(name: str, arguments: Any, slots: object, wait: float) -> Remote:
-    most = read_whole(slots, f"{FILE}: slots: {name}", 1, MOST_SLOTS)
+def read_remote(name: str, arguments: Any) -> Remote:
     place = f"{FILE}: runners: {name}"
     is_name = NAME.fullmatch(name) and name != LOCAL
     require(is_name, f"{place}: the name of a runner has 1 to 64 letters, digits, dots, underscores and hyphens, and isn't {LOCAL}")
-    is_command = isinstance(arguments, list) and arguments and all(isinstance(word, str) and word and "\0" not in word for word in arguments)
+    is_command = arguments and NAMES.fits(arguments) and not any("\0" in word for word in arguments)
     require(is_command, f"{place}: it has to be a command, as a list of arguments")
     program = find_program(arguments[0])
     require(program, f"{place}: there is no program {arguments[0]}")
-    return Remote(name, (str(program), *arguments[1:]), most, wait)
+    return Remote(name, (str(program), *arguments[1:]))
 
 
 def matching_objects(pattern: str, by_host: Mapping[str, List[str]], groups: Mapping[str, Groups]) -> List[str]:

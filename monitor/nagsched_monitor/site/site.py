@@ -1,15 +1,6 @@
 """A site: the folder that says which objects are monitored, and how. It is read and tested as a whole before anything runs.
 
-    setup.json        the setup of the scheduler, or several: part-1.json, part-2.json and so on
-    mirrors.json      which objects of a part are mirrors of those of another (may be left out)
-    commands.json     the command of each object by its full name
-    periods.json      time periods, and which objects use which (may be left out)
-    passive.json      which objects are passive, and how fresh their results have to be (may be left out)
-    runners.json      which checks are made by runners elsewhere (may be left out)
-    groups.json       the groups and contacts of objects, and the notifications that they want (may be left out)
-    inventory.json    what people see of objects (may be left out)
-    monitor.json      options of the monitor (may be left out)
-"""
+`docs/monitor.md` has its files, and the members of each."""
 import json
 import pathlib
 import subprocess
@@ -17,27 +8,28 @@ import zoneinfo
 from dataclasses import dataclass, replace
 from typing import AbstractSet, Any, Container, Dict, List, Mapping, Optional, Sequence, Tuple
 
-from ..faults import SiteFault
-from ..model.definitions import ObjectDefinition
+from ..faults import SiteFault, raising, require, trouble_text
+from ..model.objects import ObjectDefinition
+from ..model.remarks import Remark
 from .command_lines import read_commands
-from .groups_file import read_groups
-from .inventory_file import read_inventory
 from .json_files import (
-    MOST_FRESH, MOST_SECONDS, lock_for_reading, members_by_name, members_of, read_by_name, read_object, read_seconds, read_whole, require,
+    ANY, FLAG, MOST_SECONDS, NAMES, TEXT, YEAR, lock_for_reading, members_by_name, members_of, one_of, read_by_name, read_object, seconds, whole,
 )
 from .mirror_file import read_mirrors
+from .people_files import read_directory, read_groups, read_inventory, read_remarks
 from .periods import Period, Periods, read_periods
 from .runner_file import Remote, read_runners
 
-# The limit for the test of a setup, in seconds.
-LIMIT = 300.0
+PERIODS = "periods.json"
+LIMIT = 300.0  # the limit for the test of a setup, in seconds
 CODES_BY_LETTER = {"w": 1, "c": 2, "u": 3}
-# The number of objects that a warning names.
-NAMED = 5
-# The options that are whole numbers, with their limits.
-# The options that are texts, and lists of texts: those of the command line.
-TEXTS, LISTS = ("on_change", "page", "page_url", "textfile", "nagios_files"), ("alertmanager", "page_name")
-NUMBERS = {"slots": (1, 10_000), "cached_host_check_horizon": (0, MOST_SECONDS), "keep_days": (0, 36_500)}
+NAMED = 5  # the number of objects that a warning names
+# The options of the command line, which are texts or lists of texts, and all options.
+TEXTS, LISTS = ("on_change", "page", "page_url", "textfile", "nagios_files", "perfdata", "livestatus"), ("alertmanager", "page_name")
+OPTIONS = {
+    **dict.fromkeys(TEXTS, TEXT), **dict.fromkeys(LISTS, NAMES), "slots": whole(1, 10_000), "cached_host_check_horizon": whole(0, MOST_SECONDS),
+    "keep_days": whole(0, 36_500), "log_passive": FLAG, "service_check_timeout_state": one_of(CODES_BY_LETTER), "zone": TEXT,
+}
 
 
 @dataclass(frozen=True)
@@ -46,10 +38,8 @@ class Options:
     cached_host_check_horizon: int = 15
     timeout_code: int = 2
     keep_days: int = 90
-    # The machine's zone if it is None.
-    zone: Optional[zoneinfo.ZoneInfo] = None
-    # Whether the log has a line for each passive result.
-    log_passive: bool = True
+    zone: Optional[zoneinfo.ZoneInfo] = None  # the machine's zone if it is None
+    log_passive: bool = True  # whether the log has a line for each passive result
     # The options of the command line that can stand here too.
     alertmanager: Sequence[str] = ()
     on_change: Optional[str] = None
@@ -58,26 +48,24 @@ class Options:
     page_name: Sequence[str] = ()
     textfile: Optional[str] = None
     nagios_files: Optional[str] = None
+    perfdata: Optional[str] = None
+    livestatus: Optional[str] = None
 
 
 @dataclass(frozen=True)
 class Site:
     """A site that was read and found to be good."""
 
-    # The setup of each part, on one line.
-    setups: Sequence[bytes]
+    setups: Sequence[bytes]  # the setup of each part, on one line
     objects: Mapping[str, ObjectDefinition]
     periods: Periods
     options: Options
-    # The hosts that have a host as their parent, by its name.
-    children: Mapping[str, Sequence[str]]
-    # The objects whose results have to be fresh.
-    with_freshness: Sequence[str]
-    # The names of the mirrors of each part that has some.
-    mirrors: Mapping[int, AbstractSet[str]]
+    children: Mapping[str, Sequence[str]]  # the hosts that have a host as their parent, by its name
+    with_freshness: Sequence[str]  # the objects whose results have to be fresh
+    mirrors: Mapping[int, AbstractSet[str]]  # the names of the mirrors of each part that has some
     runners: Mapping[str, Remote]
-    # What may not be as it was meant.
-    warnings: Sequence[str]
+    warnings: Sequence[str]  # what may not be as it was meant
+    remarks: Sequence[Remark] = ()
 
 
 def read_site(folder: pathlib.Path, program: str) -> Site:
@@ -94,17 +82,19 @@ def read_site(folder: pathlib.Path, program: str) -> Site:
         periods, period_of = read_period_file(folder, objects)
         passive = read_passive(folder, objects)
         read_inventory(folder, objects)
+        remarks = read_remarks(folder, objects)
+        read_directory(folder)
+    children: Dict[str, List[str]] = {}
     for name, definition in objects.items():
+        for parent in definition.parents:
+            children.setdefault(parent, []).append(name)
         only, freshness = passive.get(name, (False, None))
         command, period, runner = commands.get(name), period_of.get(name), runner_of.get(name)
         objects[name] = replace(definition, command=command, period=period, runner=runner, passive_only=only, freshness=freshness)
         test_command(objects[name])
     with_freshness = [name for name, definition in objects.items() if definition.freshness is not None]
-    return Site(setups, objects, Periods(periods, options.zone), options, children_of(objects), with_freshness, mirrors, runners,
-                retry_warnings(documents, objects))
-
-
-# ---- setups
+    return Site(setups, objects, Periods(periods, options.zone), options, children, with_freshness, mirrors, runners,
+                retry_warnings(documents, objects), remarks)
 
 
 def setup_files(folder: pathlib.Path) -> List[pathlib.Path]:
@@ -118,16 +108,14 @@ def setup_files(folder: pathlib.Path) -> List[pathlib.Path]:
 
 def setup_line(path: pathlib.Path, program: str) -> bytes:
     """A setup on one line, as the scheduler reads it. A setup that it refuses is a fault, in the scheduler's words."""
-    try:
+    with raising(SiteFault, path.name):
         setup = path.read_bytes()
-    except OSError as error:
-        raise SiteFault(f"{path.name}: {error.strerror}") from None
     try:
         checked = subprocess.run([program, "check", "--line"], input=setup, stdout=subprocess.PIPE, check=False, timeout=LIMIT)
     except (FileNotFoundError, PermissionError):
         raise SiteFault(f"there is no program {program}: put it on the path, or name it with --program") from None
     except OSError as error:
-        raise SiteFault(f"{program} can't be run: {error.strerror}") from None
+        raise SiteFault(f"{program} can't be run: {trouble_text(error)}") from None
     except subprocess.TimeoutExpired:
         raise SiteFault(f"{path.name}: {program} gives no answer within {LIMIT:g} seconds") from None
     line = checked.stdout.rstrip(b"\n")
@@ -160,17 +148,6 @@ def retry_warnings(documents: Mapping[str, Mapping[str, Any]], objects: Containe
     return [f"warning: {len(names)} objects {advice}: {', '.join(names[:NAMED])}{more}"] if names else []
 
 
-def children_of(objects: Mapping[str, ObjectDefinition]) -> Dict[str, List[str]]:
-    children: Dict[str, List[str]] = {}
-    for definition in objects.values():
-        for parent in definition.parents:
-            children.setdefault(parent, []).append(definition.name)
-    return children
-
-
-# ---- the other files
-
-
 def test_command(definition: ObjectDefinition) -> None:
     """Each object that is checked at any time has a command."""
     is_checked = definition.enabled and not (definition.passive_only and definition.freshness is None)
@@ -179,42 +156,30 @@ def test_command(definition: ObjectDefinition) -> None:
     require(definition.command or definition.freshness is None, f"{fault}, which is run where no result came within its freshness")
 
 
-def read_period_file(folder: pathlib.Path, objects: Container[str]) -> Tuple[Dict[str, Period], Dict[str, str]]:
-    """The periods of a site, and the period of each object that has one."""
-    document = read_object(folder, "periods.json", ("periods", "objects"))
-    periods = read_periods(members_of(document.get("periods", {}), "periods.json: periods"), "periods.json")
-    period_of = members_of(document.get("objects", {}), "periods.json: objects")
+def read_period_file(folder: pathlib.Path, objects: Optional[Container[str]] = None) -> Tuple[Dict[str, Period], Dict[str, str]]:
+    """The periods of a site, and the period of each object that has one. With `objects`, a name that isn't one of them is a fault."""
+    document = read_object(folder, PERIODS, {"periods": ANY, "objects": ANY})
+    periods = read_periods(members_of(document.get("periods", {}), f"{PERIODS}: periods"), PERIODS)
+    period_of = members_of(document.get("objects", {}), f"{PERIODS}: objects")
     for name, period in period_of.items():
-        require(name in objects, f"periods.json: {name}: there is no such object")
-        require(isinstance(period, str) and period in periods, f"periods.json: {name}: there is no period {period!r}")
+        require(objects is None or name in objects, f"{PERIODS}: {name}: there is no such object")
+        require(isinstance(period, str) and period in periods, f"{PERIODS}: {name}: there is no period {period!r}")
     return periods, period_of
 
 
 def read_passive(folder: pathlib.Path, objects: Container[str]) -> Dict[str, Tuple[bool, Optional[int]]]:
     """For each object in the file, whether it is passive only, and its freshness in milliseconds."""
     passive = {}
-    for name, place, members in read_by_name(folder, "passive.json", ("only", "freshness"), objects):
-        only, freshness = members.get("only", False), members.get("freshness")
-        require(isinstance(only, bool), f"{place}: only is true or false")
-        passive[name] = only, None if freshness is None else round(read_seconds(freshness, f"{place}: freshness", MOST_FRESH) * 1000)
+    for name, _, members in read_by_name(folder, "passive.json", {"only": FLAG, "freshness": seconds(YEAR)}, objects):
+        passive[name] = members.get("only", False), round(members["freshness"] * 1000) if "freshness" in members else None
     return passive
 
 
 def read_options(folder: pathlib.Path) -> Options:
-    members = read_object(folder, "monitor.json", (*NUMBERS, *TEXTS, *LISTS, "service_check_timeout_state", "zone", "log_passive"))
-    for name, (least, most) in NUMBERS.items():
-        read_whole(members.get(name, 1), f"monitor.json: {name}", least, most)
-    for name in TEXTS:
-        require(isinstance(members.get(name, "x"), str), f"monitor.json: {name}: it has to be a text")
-    for name in LISTS:
-        names = members.get(name, [])
-        require(isinstance(names, list) and all(isinstance(each, str) for each in names), f"monitor.json: {name}: it has to be a list of texts")
-    require(isinstance(members.get("log_passive", True), bool), "monitor.json: log_passive is true or false")
+    members = read_object(folder, "monitor.json", OPTIONS)
     letter, zone = members.pop("service_check_timeout_state", "c"), members.pop("zone", None)
-    is_known = isinstance(letter, str) and letter in CODES_BY_LETTER
-    require(is_known, f"monitor.json: service_check_timeout_state is w, c or u, and no {letter!r}")
     try:
         read_zone = None if zone is None else zoneinfo.ZoneInfo(zone)
-    except (TypeError, ValueError, zoneinfo.ZoneInfoNotFoundError):
+    except (ValueError, zoneinfo.ZoneInfoNotFoundError):
         raise SiteFault(f"monitor.json: there is no zone {zone!r}") from None
     return Options(**members, timeout_code=CODES_BY_LETTER[letter], zone=read_zone)

@@ -1,26 +1,17 @@
 """The figures of the monitor itself: results, delays of checks, saves. They continue after a restart.
 
-The names of the stored figures, and their meanings:
+The metrics say what most of the stored figures mean. The others:
 
     checks.STATE          results that were reported, by the state in which each left its object
-    checks.given_up       checks that were abandoned, since their runner ended
-    checks.not_started    checks that this machine couldn't start: it had no files, processes or memory for them
-    faults                turns that ended with a fault of the monitor's own
-    changes_aside         changes that the command for changes refused again and again
-    checks.refused        results that came too late
     late.BOUND            checks that began at most this many seconds late, and more than the bound before; `late.more` those later than all bounds
     late.sum              the seconds by which all of these were late, together
-    calls, saves          calls to the scheduler, and states that were saved
-    saved_at              when the state was saved last, in seconds since 1970
     moment                the moment at which these were written
-    begun_at, written_at  when this monitor began, and when it wrote its figures last
+    begun_at, written_at  when this monitor began, and when it wrote its figures last, in seconds since 1970
     uptime                the seconds since the machine was started when these were written: a wrong clock doesn't change them
     checks_a_second       results per second, over the last minute or since this monitor began
-    latest_start          the most seconds by which a check was late, since this monitor began
-    latest_start_lately   the same of the last minute
-    overdue, promised     objects without a result in time, and objects that are promised one
-    overdue_by            the seconds by which the one is overdue that is overdue the longest
-"""
+    latest_start          the most seconds by which a check was late, since this monitor began; `latest_start_lately` in the last minute
+    promised              objects that are promised a result in time
+    spooled               the last call whose result is in the spool of performance data; -1 without a spool"""
 import bisect
 import collections
 import time
@@ -35,7 +26,8 @@ MINUTE = 60_000
 BOUNDS = (0.05, 0.1, 0.25, 0.5, 1.0, 2.5, 5.0, 10.0, 30.0, 60.0)
 BUCKETS = tuple(f"late.{bound:g}" for bound in BOUNDS) + ("late.more",)
 RESULTS = ("OK", "WARNING", "CRITICAL", "UNKNOWN", "UP", "DOWN", "UNREACHABLE", "given_up", "refused", "not_started")
-RESTORED = tuple(f"checks.{result}" for result in RESULTS) + BUCKETS + ("late.sum", "saves", "saved_at", "faults", "changes_aside")
+RESTORED = (*(f"checks.{result}" for result in RESULTS), *BUCKETS, "late.sum", "saves", "saved_at", "faults", "changes_aside", "commands_refused",
+            "spooled", "spooled_at", "unspooled")
 
 
 class Counters:
@@ -57,11 +49,11 @@ class Counters:
         if result not in ("given_up", "refused", "not_started"):
             self.result_count += 1
 
-    def count_fault(self) -> None:
-        self._values["faults"] += 1
+    def count(self, figure: str) -> None:
+        self._values[figure] += 1
 
-    def count_change_aside(self) -> None:
-        self._values["changes_aside"] += 1
+    def note(self, figures: Mapping[str, float]) -> None:
+        self._values.update(figures)
 
     def count_start(self, late: int) -> None:
         """A check began late, by a number of milliseconds."""
@@ -91,6 +83,11 @@ class Counters:
                        "uptime": time.clock_gettime(time.CLOCK_BOOTTIME)}
         values = {**self._values, **of_this_run, **others, "latest_start": self.latest_start / 1000, "latest_start_lately": lately / 1000}
         return {name: value for name, value in values.items() if self._written.get(name) != value}
+
+    def write_all(self) -> None:
+        """Has all figures written next."""
+        self._written.clear()
+        self._written_at -= EVERY
 
     def set_written(self, figures: Mapping[str, float]) -> None:
         self._written_at = self._clock.moment()

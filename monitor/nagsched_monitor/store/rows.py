@@ -1,8 +1,10 @@
 """The rows of a site's database: its tables, the content of a row, and its checksum."""
 import hashlib
-from typing import AbstractSet, Dict, NamedTuple, Optional, Sequence, Union
+import json
+from typing import AbstractSet, Any, Dict, Iterable, List, NamedTuple, Optional, Sequence, Union
 
-from ..model.protocol import Call
+from ..model.protocol import NO_PROBLEM, Call, Standing
+from ..model.remarks import Remark
 
 Cell = Union[int, float, str, bytes, None]
 
@@ -21,6 +23,8 @@ TABLES: Dict[str, str] = {
     "requests": "number TEXT UNIQUE, answer TEXT",
     "settings": "name TEXT UNIQUE, value TEXT",
     "aside": "part INTEGER, line TEXT",
+    "remarks": "kind TEXT, name TEXT, author TEXT, text TEXT, made_at REAL, starts_at REAL, ends_at REAL, sticky INTEGER, persistent INTEGER, "
+    "duration REAL, began_at REAL, state TEXT",
     "damaged": "source TEXT, was TEXT",
 }
 INDEXES = ("changes_by_name ON changes (name, id)", "changes_by_time ON changes (time)")
@@ -34,12 +38,15 @@ LOSSES: Dict[str, str] = {
     "figures": "a figure begins again",
     "standings": "since when an object is in its state isn't known",
     "requests": "a numbered request may be carried out twice",
-    "settings": "the command for changes is told again what is wrong",
+    "settings": "the command for changes is told again what is wrong, or remarks.json is taken over again",
     "aside": "the scheduler may end after a call again, which is then set aside again",
+    "remarks": "an acknowledgement, a downtime or a comment is gone, and people may be notified of its object",
 }
+ONLY_STORED = ("changes", "outbox", "not_taken", "settings")  # the tables whose rows a monitor hasn't in memory
 # The version of these tables. Those that have grown since a version got the last member.
 VERSION = 3
 GROWN = ((2, "standings"), (3, "standings"), (3, "outbox"))
+REMARKS = f"SELECT {', '.join(Remark._fields)} FROM remarks ORDER BY id"
 INSERTS: Dict[str, str] = {
     table: f"INSERT OR REPLACE INTO {table} VALUES ({','.join('?' * (len(members.split(',')) + 2))})" for table, members in TABLES.items()
 }
@@ -66,11 +73,7 @@ class StoredCall(NamedTuple):
     call: Optional[Call] = None  # the call in the line, if this monitor made it
 
 
-class StoredResult(NamedTuple):
-    id: int
-    name: str
-    code: int
-    words: str
+StoredResult = NamedTuple("StoredResult", [("id", int), ("name", str), ("code", int), ("words", str)])
 
 
 class StoredChange(NamedTuple):
@@ -84,6 +87,13 @@ class StoredChange(NamedTuple):
     attempt: int
     flapping: bool
     words: str
+
+    def document(self, before: Optional[Standing], id: Optional[str] = None, **others: bool) -> str:
+        """The line of JSON that the command reads. Its `id` is the number of the call, if it has no other."""
+        members = {name: getattr(self, name) for name in ("time", "name", "state", "kind", "attempt", "flapping")}
+        members["was"], members["was_flapping"] = (None, False) if before is None else (before.state, before.flapping)
+        members["output"], _, members["long_output"] = self.words.partition("\n")
+        return json.dumps({"id": str(self.id) if id is None else id, **members, **others}, ensure_ascii=False)
 
 
 class StoredStanding(NamedTuple):
@@ -111,11 +121,8 @@ class StoredStanding(NamedTuple):
     def is_host(self) -> bool:
         return ";" not in self.name
 
-    def host(self) -> str:
-        return self.name.partition(";")[0]
-
     def is_problem(self) -> bool:
-        return self.state not in (None, "PENDING", "OK", "UP")
+        return self.state not in (None, *NO_PROBLEM)
 
     def is_hard_problem(self) -> bool:
         return self.is_problem() and self.kind == "HARD"
@@ -124,15 +131,11 @@ class StoredStanding(NamedTuple):
         """When a problem got its current kind, soft or hard."""
         return self.hard_since if self.is_hard_problem() and self.hard_since is not None else self.since
 
-    def is_due(self, now: float) -> bool:
-        """Whether its time has come and it isn't checked yet."""
-        return bool(self.is_on) and self.out_since is None and self.next_check is not None and self.next_check <= now
+
+def read_remarks(rows: Iterable[Sequence[Any]]) -> List[Remark]:
+    found = (Remark(*row) for row in rows)
+    return [each._replace(sticky=bool(each.sticky), persistent=bool(each.persistent)) for each in found]
 
 
 def checksum_of(table: str, number: int, cells: Sequence[Cell]) -> str:
     return hashlib.blake2b(ascii((table, number, *cells)).encode(), digest_size=8).hexdigest()
-
-
-def row_number(name: str) -> int:
-    """The number of an object's row, computed from its name, so that it is always the same."""
-    return int.from_bytes(hashlib.blake2b(name.encode(errors="replace"), digest_size=7).digest(), "big")

@@ -7,9 +7,8 @@ import itertools
 from typing import Dict, List, Mapping, Optional, Tuple
 
 from ..model.clock import Clock
-from ..model.object_state import FIRST_TIME, ObjectState, StateHistory
+from ..model.objects import FIRST_TIME, ObjectState, Run, StateHistory
 from ..model.protocol import Answer, Call, Report, Standing, Taken
-from ..model.run_table import Run
 from .rows import StoredStanding
 from .store import Store, Write, delete, store_standings
 
@@ -23,10 +22,8 @@ class StandingTable:
         self._store, self._clock = store, clock
         # Objects and the moments at which they were marked, the earliest first. The moment 0 is for those to be written with the next calls.
         self._marked: Dict[str, Tuple[ObjectState, int]] = {}
-        # The objects of the last writes.
-        self._chosen: List[ObjectState] = []
-        # Rows of objects that aren't part of the site any more.
-        self._dropped: List[str] = []
+        self._chosen: List[ObjectState] = []  # the objects of the last writes
+        self._dropped: List[str] = []  # rows of objects that aren't part of the site any more
 
     def read(self, objects: Mapping[str, ObjectState]) -> None:
         for row in self._store.standings():
@@ -45,7 +42,8 @@ class StandingTable:
             past.note(standing.state, standing.kind, stored.since if stored.since and stored.state == standing.state else self._clock.wall())
             if stored.hard_since is not None and stored.hard_state == past.hard_state:
                 past.hard_since = stored.hard_since
-        self._marked = {name: (obj, 0) for name, obj in objects.items() if obj.standing is not None}
+        self._marked = {}
+        self.write_soon(objects)
 
     def apply_answer(self, obj: ObjectState, call: Call, answer: Answer, ended: Optional[Run]) -> None:
         """Takes in the changes of an object from an answer, and marks the object. `ended` is its run before."""
@@ -59,9 +57,10 @@ class StandingTable:
             past.note(answer.state, answer.kind, now)
         self._marked.setdefault(obj.name, (obj, self._clock.moment()))
 
-    def write_soon(self) -> None:
-        """Has all marked objects written with the next calls."""
-        self._marked = {name: (obj, 0) for name, (obj, _) in self._marked.items()}
+    def write_soon(self, others: Mapping[str, ObjectState]) -> None:
+        """Has all marked objects written with the next calls, and others whose states are known: in the order of their checks, which new rows keep."""
+        known = {obj.name: (obj, 0) for obj in sorted(others.values(), key=lambda obj: obj.phase or 0) if obj.standing is not None}
+        self._marked = {**known, **{name: (obj, 0) for name, (obj, _) in self._marked.items()}}
 
     def is_overdue(self) -> bool:
         """Whether a marked object has waited too long for calls to be written with."""
@@ -70,7 +69,6 @@ class StandingTable:
         return now - earliest > LONGEST
 
     def writes(self) -> List[Write]:
-        """The writes for the next calls."""
         now, wall = self._clock.moment(), self._clock.wall()
         due = itertools.takewhile(lambda marked: now - marked[1] >= SHORTEST, self._marked.values())
         self._chosen = [obj for obj, since in due if now - since >= LONGEST or not has_just_begun(obj.run, wall)]
@@ -89,7 +87,6 @@ def has_just_begun(run: Optional[Run], wall: float) -> bool:
 
 
 def is_settled(standing: Standing, past: StateHistory) -> bool:
-    """Whether the known past of an object agrees with its state."""
     return standing.state == "PENDING" or standing.state == past.state and (standing.kind == "SOFT" or standing.state == past.hard_state)
 
 

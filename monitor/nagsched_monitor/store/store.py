@@ -3,42 +3,29 @@
     generations   for each part: the setup over which its scheduler was opened, the start, and the saved state that it resumed, if there was one
     mirrors       for each part that has mirrors: their names, as JSON
     calls         the calls that were made since, with the plugin's output if one reported; each is stored before it is made
-    switches      whether an operator has an object's checks on
-    passive       results that came through the socket and weren't reported yet
     changes       changes of state, by the number of the call that made them
-    outbox        changes that the command for changes hasn't taken yet, with the moment of each
-    not_taken     changes that it refused again and again
     standings     the standing of each object, a second old at most
-    figures       the monitor's own figures, a name and a number each
-    requests      the answers to the last thousand requests that had numbers
-    settings      the command for changes that was told what is wrong
-    aside         calls after which a scheduler ends, which aren't made again
     damaged       rows of other tables that were changed since they were written
 
-Each row has a checksum over its table and its members, which shows whether the row was changed since.
-"""
+`LOSSES` says what the others are for. Each row has a checksum over its table and its members, which shows whether the row was changed since."""
 import contextlib
-import fcntl
 import json
 import os
 import pathlib
 import sqlite3
+import tempfile
 from typing import Any, Callable, Dict, Iterable, List, Mapping, Optional, Sequence, Set, Tuple
 
-from ..faults import MonitorFault, NotStored
-from ..model.object_state import StateHistory
+from ..faults import MonitorFault, NotStored, raising
+from ..model.objects import StateHistory
 from ..model.protocol import GREATEST
-from .rows import (
-    GROWN, INDEXES, INSERTS, LOSSES, TABLES, VERSION, Cell, Generation, StoredCall, StoredChange, StoredResult, StoredStanding, checksum_of,
-    row_number,
-)
+from ..model.remarks import Remark
+from .database_file import LARGEST_LOG, DatabaseFile, open_database
+from .rows import INSERTS, LOSSES, ONLY_STORED, REMARKS, TABLES, Cell, Generation, StoredCall, StoredChange, StoredResult, StoredStanding
+from .rows import checksum_of, read_remarks
 
-# A write that is carried out together with others, or not at all.
-Write = Callable[["Store"], object]
-# The number of stored answers to numbered requests.
-MOST_REQUESTS = 1_000
-# The size to which SQLite's log is cut after a long reader, in bytes.
-LARGEST_LOG = 67_108_864
+Write = Callable[["Store"], object]  # it is carried out together with others, or not at all
+MOST_REQUESTS = 1_000  # the number of stored answers to numbered requests
 # The advice after damage to what schedulers continue from.
 CONTINUE = "continue from the last saved state with: nagsched-monitor {} drop-calls"
 
@@ -49,53 +36,28 @@ class Store:
     def __init__(self, folder: pathlib.Path, log: Callable[[str], None] = lambda line: None, is_calls_dropped: bool = False) -> None:
         self.path, self._log = folder / "monitor.db", log
         self.last_call = 0
+        self._told_size = LARGEST_LOG  # the size of SQLite's log above which it is told of
+        self.spooled: Optional[int] = None  # the last call whose result is in the spool of performance data; None without a spool
+        self._open(is_calls_dropped)
+
+    def _open(self, is_calls_dropped: bool = False) -> None:
+        """Opens the file, and tests its rows."""
         with contextlib.ExitStack() as opened:
-            # The file is for its owner only. It stays open until the database is closed: SQLite's locks end when any descriptor of the file is closed.
-            self._file = os.open(self.path, os.O_RDWR | os.O_CREAT | os.O_CLOEXEC, 0o600)
-            opened.callback(os.close, self._file)
-            lock_file(self._file, folder)
-            try:
-                self._open_database(opened)
+            self.file = DatabaseFile(self.path)
+            opened.callback(self.file.close)
+            with raising(MonitorFault, self.path, sqlite3.Error):
+                self._database = open_database(self.path)
+                opened.callback(self._database.close)
+                self.file.watch(self._database)
                 if is_calls_dropped:
                     self._drop_calls()
                 self._verify()
                 self.last_call = max(self.greatest("calls"), self.greatest("generations", "last_call"), self.greatest("changes"))
                 self.last_result = self.greatest("passive")
-            except sqlite3.Error as error:
-                raise MonitorFault(f"{self.path}: {error}") from None
+                # The number of each object's row. A new object gets the next one, so that rows that are written together can be next to each other.
+                self._row_numbers: Dict[str, int] = dict(self._read("SELECT name, id FROM standings"))
+                self._last_row = self.greatest("standings")
             self._opened = opened.pop_all()
-
-    def _open_database(self, opened: contextlib.ExitStack) -> None:
-        """Opens the database, which has a table for everything."""
-        self._database = database = sqlite3.connect(self.path, isolation_level=None, timeout=5)
-        opened.callback(database.close)
-        for setting in ("journal_mode=WAL", "synchronous=FULL", "wal_autocheckpoint=1000", f"journal_size_limit={LARGEST_LOG}"):
-            database.execute(f"PRAGMA {setting}")
-        database.execute("BEGIN IMMEDIATE")
-        self._migrate(database)
-        for table, members in TABLES.items():
-            database.execute(f"CREATE TABLE IF NOT EXISTS {table} (id INTEGER PRIMARY KEY, {members}, checksum TEXT)")
-        for index in INDEXES:
-            database.execute(f"CREATE INDEX IF NOT EXISTS {index}")
-        database.execute("COMMIT")
-
-    def _migrate(self, database: sqlite3.Connection) -> None:
-        """Takes over a database of a version before: some rows had fewer members."""
-        (version,) = database.execute("PRAGMA user_version").fetchone()
-        if version > VERSION:
-            raise MonitorFault(f"{self.path}: it has version {version}, and this monitor reads versions up to {VERSION}")
-        if version == VERSION:
-            return  # nothing is written: the disk may be full
-        for table in sorted({table for since, table in GROWN if version < since}):
-            new = [None] * sum(version < since and table == each for since, each in GROWN)
-            rows = []
-            if database.execute("SELECT 1 FROM sqlite_master WHERE name = ?", (table,)).fetchone():
-                rows = [row for row in database.execute(f"SELECT * FROM {table}") if row[-1] == checksum_of(table, row[0], row[1:-1])]
-                database.execute(f"DROP TABLE {table}")
-            database.execute(f"CREATE TABLE {table} (id INTEGER PRIMARY KEY, {TABLES[table]}, checksum TEXT)")
-            for number, *cells, _ in rows:
-                database.execute(INSERTS[table], (number, *cells, *new, checksum_of(table, number, [*cells, *new])))
-        database.execute(f"PRAGMA user_version = {VERSION}")
 
     def _drop_calls(self) -> None:
         """Drops the calls since the last saved states, and damaged states: these parts begin from scratch."""
@@ -108,27 +70,39 @@ class Store:
         self.write(delete("calls", "TRUE"), delete("aside", "TRUE"))
         self._log(f"{count} calls since the last saved states are dropped")
 
-    def test_file(self) -> None:
-        """Raises `NotStored` if the file that is open isn't the one at its path any more."""
-        try:
-            here, there = os.fstat(self._file), os.stat(self.path)
-            is_same = (here.st_dev, here.st_ino) == (there.st_dev, there.st_ino)
-            why = "it was replaced while the monitor runs: put the old file back, or restart the monitor to continue with the new one"
-        except OSError:
-            is_same, why = False, "it was moved or deleted while the monitor runs: put it back, or restart the monitor to begin without it"
-        if not is_same:
-            raise NotStored(f"{self.path}: {why}")
+    def renew(self, *writes: Write) -> None:
+        """Puts a new database in the place of the file: these writes, and the rows that only the file has. The file that is there becomes monitor.db.old.
+
+        If the new one can't be written, `NotStored` is raised, and nothing has changed."""
+        with raising(NotStored, self.path, MonitorFault):
+            with tempfile.TemporaryDirectory(prefix="monitor.db.", dir=self.path.parent) as folder:
+                fresh = Store(pathlib.Path(folder))
+                with contextlib.closing(fresh):
+                    self._copy_rows(fresh.path)
+                    fresh.write(*writes)
+                for end in ("", "-wal", "-shm"):  # SQLite's other two files belong to it
+                    with contextlib.suppress(FileNotFoundError):
+                        os.replace(f"{self.path}{end}", f"{self.path}.old{end}")
+                self.close()
+                os.replace(fresh.path, self.path)
+        self._open()
+
+    def _copy_rows(self, path: pathlib.Path) -> None:
+        self._database.execute("ATTACH ? AS fresh", (str(path),))
+        for table in ONLY_STORED:
+            try:
+                self._database.execute(f"INSERT INTO fresh.{table} SELECT * FROM main.{table}")
+            except sqlite3.Error as error:
+                self._log(f"the table {table} can't be taken over: {error}")
+        self._database.execute("DETACH fresh")
 
     def close(self) -> None:
         self._opened.close()
 
-    # ---- reading
-
     def _verify(self) -> None:
         """Tests each row's checksum, except those of the history, and that no call is missing between two."""
-        for table in TABLES:
-            if table not in ("changes", "damaged"):
-                self._sound_rows(table, self._database.execute(f"SELECT * FROM {table} ORDER BY id").fetchall())
+        for table in (each for each in TABLES if each not in ("changes", "damaged")):
+            self._sound_rows(table, self._database.execute(f"SELECT * FROM {table} ORDER BY id").fetchall())
         first, last, count = self._database.execute("SELECT min(id), max(id), count(*) FROM calls").fetchone()
         if count and last - first + 1 != count:
             missing = f"{last - first + 1 - count} rows of calls are missing"
@@ -146,17 +120,14 @@ class Store:
             if table not in LOSSES:
                 raise MonitorFault(f"{self.path}: {changed}: restore the file, or {CONTINUE.format(self.path.parent)}")
             self._log(f"{changed}: it is in the table damaged now, and {LOSSES[table]}")
-            with contextlib.suppress(sqlite3.Error):
-                insert("damaged", None, table, ascii(row))(self)
-                delete(table, "id = ?", number)(self)
+            with contextlib.suppress(NotStored):
+                self.write(insert("damaged", None, table, ascii(row)), delete(table, "id = ?", number))
         return sound
 
     def _read(self, query: str, *cells: Cell) -> List[Any]:
         """The rows of a query. A failed read raises `NotStored`, as a failed write does."""
-        try:
+        with raising(NotStored, self.path, sqlite3.Error):
             return self._database.execute(query, cells).fetchall()
-        except sqlite3.Error as error:
-            raise NotStored(f"{self.path}: {error}") from None
 
     def greatest(self, table: str, member: str = "id") -> int:
         (greatest,) = self._database.execute(f"SELECT max({member}) FROM {table}").fetchone()
@@ -172,8 +143,7 @@ class Store:
         return [StoredCall(*row) for row in self._read(query, part, number, last)]
 
     def last_moment(self) -> int:
-        """The greatest stored moment. After a save there may be no calls, so the figures have a moment too."""
-        # The moment is the last member of these calls.
+        """The greatest stored moment. After a save there may be no calls, so the figures have a moment too. It is a call's last member."""
         lines = self._read("""SELECT line FROM calls WHERE line LIKE '["take",%' OR line LIKE '["abandon",%' ORDER BY id DESC LIMIT 1""")
         starts = [generation.start for generation in self.generations().values()]
         return max([0, int(self.figures().get("moment", 0)), *starts, *(int(json.loads(line)[-1]) for (line,) in lines)])
@@ -186,6 +156,9 @@ class Store:
 
     def requests(self) -> Dict[str, str]:
         return dict(self._read("SELECT number, answer FROM requests ORDER BY id"))
+
+    def remarks(self) -> List[Remark]:
+        return read_remarks(self._read(REMARKS))
 
     def outbox(self) -> List[Tuple[int, str, Optional[int]]]:
         """The documents that the command for changes hasn't taken, the oldest first, with their moments."""
@@ -201,7 +174,6 @@ class Store:
         return count, first
 
     def changes_after(self, number: int) -> Set[int]:
-        """The numbers of the stored changes after the call with this number."""
         return {each for (each,) in self._read("SELECT id FROM changes WHERE id > ?", number)}
 
     def figures(self) -> Dict[str, float]:
@@ -210,6 +182,11 @@ class Store:
     def standings(self) -> List[StoredStanding]:
         return [StoredStanding(*cells) for cells in self._read(f"SELECT {', '.join(StoredStanding._fields)} FROM standings")]
 
+    def open_spool(self) -> None:
+        """Calls stay from now on until their results are in the spool of performance data."""
+        ((first,),), known = self._read("SELECT coalesce(min(id), ?) FROM calls", self.last_call + 1), int(self.figures().get("spooled", -1))
+        self.spooled = first - 1 if known < 0 else known
+
     def last_changes(self, name: str) -> Optional[StateHistory]:
         """When an object's last state began, and its last hard one, from the stored changes; None if it has none."""
         past = StateHistory()
@@ -217,12 +194,10 @@ class Store:
             past.note(str(state), str(kind), float(str(time)))
         return past if past.state else None
 
-    # ---- writing
-
     def write(self, *writes: Write) -> None:
         """Writes all of these or nothing, and syncs the file. Raises `NotStored` if the disk is full or the file can't be written."""
         last_call = self.last_call
-        self.test_file()
+        self.file.test()
         try:
             self._database.execute("BEGIN IMMEDIATE")
             for write in writes:
@@ -235,20 +210,30 @@ class Store:
             if isinstance(error, sqlite3.Error):
                 raise NotStored(f"{self.path}: {error}") from None
             raise
+        finally:
+            self.file.note_state()
+        self._log_long_reader()
+
+    def _log_long_reader(self) -> None:
+        """Logs that SQLite's log grows, since it can't begin again while another program reads the database."""
+        size = self.file.log_size()
+        if size > self._told_size:
+            self._log(f"{self.path}-wal has {size // 1_000_000} MB and grows: end the program that reads the database all the time; fuser {self.path} shows it")
+            self._told_size = 2 * size
+        elif size <= LARGEST_LOG:
+            self._told_size = LARGEST_LOG
+
+    def row_number(self, name: str) -> int:
+        """The number of an object's row in the table of standings, which stays the same."""
+        if name not in self._row_numbers:
+            self._last_row += 1
+            self._row_numbers[name] = self._last_row
+        return self._row_numbers[name]
 
     def insert_all(self, table: str, rows: Sequence[Tuple[int, Sequence[Cell]]]) -> None:
-        self._database.executemany(INSERTS[table], [(number, *cells, checksum_of(table, number, cells)) for number, cells in rows])
-
-
-def lock_file(file: int, folder: pathlib.Path) -> None:
-    """Locks the database itself, which one monitor has."""
-    try:
-        fcntl.flock(file, fcntl.LOCK_EX | fcntl.LOCK_NB)
-    except BlockingIOError:
-        raise MonitorFault(f"another monitor runs on {folder}") from None
-
-
-# ---- writes
+        """Writes rows with their checksums. What is true or false is a number, as the database gives it back."""
+        plain = ((number, [int(cell) if isinstance(cell, bool) else cell for cell in cells]) for number, cells in rows)
+        self._database.executemany(INSERTS[table], [(number, *cells, checksum_of(table, number, cells)) for number, cells in plain])
 
 
 def insert(table: str, number: Optional[int], *cells: Cell) -> Write:
@@ -278,29 +263,13 @@ def store_request(number: str, answer: str) -> Write:
     return all_of(insert("requests", None, number, answer), delete("requests", f"id <= (SELECT max(id) FROM requests) - {MOST_REQUESTS}"))
 
 
-def begin_generations(generations: Iterable[Generation]) -> Write:
-    """The schedulers of a site, which begin from their saved states: earlier generations and calls aren't needed any more."""
-    writes = [delete(table, "TRUE") for table in ("generations", "mirrors", "calls", "aside")]
-    for each in generations:
-        writes.append(insert("generations", None, *each[:-1]))
-        writes += [insert("mirrors", None, each.part, json.dumps(sorted(each.mirrors), ensure_ascii=False))] if each.mirrors else []
-    return all_of(*writes)
-
-
-def save_generation(generation: Generation, oldest: int) -> Write:
-    """A part's scheduler with its saved state. Calls up to the oldest number are part of the saved states of all parts, and are dropped."""
-    saved = [delete("generations", "part = ?", generation.part), insert("generations", None, *generation[:-1])]
-    return all_of(*saved, *(delete(table, "id <= ?", oldest) for table in ("calls", "aside")))
-
-
 def store_document(document: str, moment: int) -> Write:
-    """A document for the command for changes."""
     return insert("outbox", None, document, moment)
 
 
 def store_change(stored: StoredChange, document: Optional[str] = None, moment: int = 0) -> Write:
     """A change of state, and the document for the command for changes, if the command is run for it."""
-    change = insert("changes", *stored[:6], int(stored.flapping), stored.words)
+    change = insert("changes", *stored)
     return change if document is None else all_of(change, store_document(document, moment))
 
 
@@ -310,8 +279,7 @@ def drop_changes_before(time: float) -> Write:
 
 
 def store_standings(standings: Sequence[StoredStanding]) -> Write:
-    rows = [(row_number(it.name), (*it[:4], int(it.flapping), *it[5:9], int(it.is_on), *it[10:])) for it in standings]
-    return lambda store: store.insert_all("standings", rows)
+    return lambda store: store.insert_all("standings", [(store.row_number(it.name), it) for it in standings])
 
 
 def store_figures(values: Mapping[str, float]) -> Write:

@@ -1,1 +1,0 @@
-"""The machine: files that don't block, the log, processes, addresses."""

@@ -22,7 +22,6 @@ def parse_address(given: str, of: str = "--page") -> Tuple[str, int]:
 
 
 def is_loopback(given: str) -> bool:
-    """Whether only the machine itself can reach an address."""
     return ipaddress.ip_address(parse_address(given)[0]).is_loopback
 
 

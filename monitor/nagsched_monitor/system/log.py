@@ -3,20 +3,18 @@ import contextlib
 import os
 import queue
 import threading
-from typing import Callable, Dict, Optional, Tuple
+from typing import Callable, Dict, Iterator, Optional, Tuple, Type
 
+from ..faults import trouble_text
 from ..model.text import plain_text
 
 # The greatest number of lines that wait; further lines are dropped, and counted. The longest line, in bytes.
 MOST_LINES = 10_000
 LONGEST = 16_384
-# The time between two lines about one cause, in seconds.
-MINUTE = 60.0
+MINUTE = 60.0  # the time between two lines about one cause, in seconds
 
 
 class Log:
-    """Lines that are written when there is room for them."""
-
     def __init__(self, file: int = 1) -> None:
         self._file, self._dropped = file, 0
         self._lines: "queue.Queue[Optional[str]]" = queue.Queue(MOST_LINES)
@@ -47,6 +45,24 @@ class Log:
         with contextlib.suppress(queue.Full):
             self._lines.put(None, timeout=seconds)
             self._thread.join(seconds)
+
+
+class Trouble:
+    """Work that is tried again and again: why it fails is logged when that changes, and with `working` that it doesn't any more."""
+
+    def __init__(self, log: Callable[[str], None], failing: str, working: str = "") -> None:
+        self._log, self._failing, self._working, self._why = log, failing, working, ""
+
+    @contextlib.contextmanager
+    def noted(self, *faults: Type[Exception]) -> Iterator[None]:
+        why = ""
+        try:
+            yield
+        except faults as fault:
+            why = trouble_text(fault)
+        if why != self._why and (why or self._working):
+            self._log(f"{self._failing}: {why}" if why else self._working)
+        self._why = why
 
 
 class RepeatedLines:

@@ -1,9 +1,13 @@
-"""Files that don't block: their readers, which are called when something comes, and writing as much as there is room for."""
+"""Files: those that don't block, with readers for what comes, and those that are written as a whole."""
 import contextlib
 import os
-import select
+import pathlib
+import selectors
 import time
-from typing import Callable, Dict
+from typing import Callable
+
+RETRY = 0.02  # the pause before an action that would block is tried again, in seconds
+MODE = 0o644  # anybody may read a file that is written as a whole
 
 
 def write_ready(file: int, unsent: bytearray) -> None:
@@ -13,31 +17,51 @@ def write_ready(file: int, unsent: bytearray) -> None:
             del unsent[: os.write(file, unsent)]
 
 
-class FilePoller:
+def keep_trying(action: Callable[[], object], seconds: float) -> None:
+    """Carries out an action again while it would block. After a number of seconds `BlockingIOError` is raised."""
+    end = time.monotonic() + seconds
+    while True:
+        try:
+            action()
+            return
+        except BlockingIOError:
+            if time.monotonic() >= end:
+                raise
+            time.sleep(RETRY)
+
+
+def replace_file(path: pathlib.Path, data: bytes) -> None:
+    """Writes a file as a whole: a reader gets the old one or this."""
+    new = path.with_name(f"{path.name}.new")
+    new.unlink(missing_ok=True)
+    try:
+        with open(new, "xb", opener=lambda name, flags: os.open(name, flags, MODE)) as there:
+            os.fchmod(there.fileno(), MODE)
+            there.write(data)
+        new.replace(path)
+    finally:
+        new.unlink(missing_ok=True)
+
+
+class FilePoller(selectors.EpollSelector):
     """The files of a process, each with its reader."""
 
-    def __init__(self) -> None:
-        self._poll = select.epoll()
-        self._readers: Dict[int, Callable[[], object]] = {}
-
     def watch(self, file: int, read: Callable[[], object]) -> None:
-        self._poll.register(file, select.EPOLLIN)
-        self._readers[file] = read
+        self.register(file, selectors.EVENT_READ, read)
 
     def unwatch(self, file: int) -> None:
-        """Does nothing if the file isn't watched any more."""
-        if self._readers.pop(file, None) is not None:
-            self._poll.unregister(file)
+        """Does nothing if the file isn't watched any more, or is closed."""
+        with contextlib.suppress(KeyError, ValueError):
+            self.unregister(file)
 
     def wait(self, milliseconds: float) -> bool:
         """Waits until something comes, which is read. Returns False if nothing came in this time."""
-        ready = self._poll.poll(max(0.0, milliseconds) / 1_000)
-        for file, _ in ready:
-            if file in self._readers:  # an earlier reader may have ended it
+        ready = self.select(max(0.0, milliseconds) / 1_000)
+        for key, _ in ready:
+            if key.fd in self.get_map():  # an earlier reader may have ended it
                 with contextlib.suppress(BlockingIOError):
-                    self._readers[file]()
+                    key.data()
         return bool(ready)
 
     def sleep(self, milliseconds: float) -> None:
-        """Lets the whole time pass."""
         time.sleep(max(0.0, milliseconds) / 1_000)

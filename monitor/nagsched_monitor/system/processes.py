@@ -5,24 +5,24 @@ import os
 import pathlib
 import select
 import shutil
+import signal
 import subprocess
 import sys
 import time
-from typing import Callable, List, Optional
+from typing import Callable, Container, Iterator, List, Optional, Tuple
 
-from ..faults import MonitorFault
+from ..faults import MonitorFault, trouble_text
 
 # The folder of the package, and the folders of its programs: installed next to the package, or built in the tree.
 FOLDER = pathlib.Path(__file__).resolve().parent.parent.parent
 PROGRAM_FOLDERS = (FOLDER, FOLDER / "out")
-# The limit for the end of a process, in seconds.
-GRACE = 5.0
+GRACE = 5.0  # the limit for the end of a process, in seconds
+LOOK_AGAIN = 0.005  # the pause between two looks at killed processes, in seconds
 # The least time from one start of a helper to the next, in seconds. It doubles up to the longest. After a process that ran that long, it is the first again.
 PAUSE, LONGEST_PAUSE = 5.0, 60.0
 # The time without a line after which a helper stands still, in seconds, and the most bytes of its lines that are read at once.
 SILENCE, READ_BYTES = 120.0, 65_536
-# The variable with a helper's arguments.
-ARGUMENTS = "NAGSCHED_HELPER"
+ARGUMENTS = "NAGSCHED_HELPER"  # the variable with a helper's arguments
 
 
 def find_program(name: str) -> Optional[str]:
@@ -58,6 +58,38 @@ def end_process(process: "subprocess.Popen[bytes]") -> object:
             return process.wait(timeout=GRACE)
         process.kill()
     return "unknown"
+
+
+def living_processes() -> Iterator[Tuple[int, int, int]]:
+    """The processes of this machine, each with its group and session, except those that have ended and wait for their parents."""
+    for name in filter(str.isdigit, os.listdir("/proc")):
+        with contextlib.suppress(OSError, ValueError):  # it has just ended
+            state, *others = pathlib.Path("/proc", name, "stat").read_bytes().rpartition(b")")[2].split()
+            if state not in b"ZX" or int(others[16]) > 1:  # a first thread may end before the others
+                yield int(name), int(others[1]), int(others[2])
+
+
+def count_left(sessions: Container[int]) -> int:
+    """The number of processes in these sessions whose group's first process has ended: plugins left them behind."""
+    groups = {process: group for process, group, session in living_processes() if session in sessions}
+    return sum(group not in groups for group in groups.values())
+
+
+def kill_members(session: int) -> int:
+    """Kills the processes of a session, except another user's, and returns their number."""
+    count = 0
+    for process in [process for process, _, its in living_processes() if its == session]:
+        with contextlib.suppress(OSError):
+            os.kill(process, signal.SIGKILL)
+            count += 1
+    return count
+
+
+def end_session(session: int) -> None:
+    """Kills the processes of a session, and waits until they are gone. Its number is no other's as long as its first process waits for its parent."""
+    end = time.monotonic() + GRACE
+    while kill_members(session) and time.monotonic() < end:
+        time.sleep(LOOK_AGAIN)
 
 
 class HelperProcess:
@@ -99,7 +131,7 @@ class HelperProcess:
             os.set_blocking(self._process.stdout.fileno(), False)
         except OSError as error:  # there is no room for a process now
             self._not_before = self._started_at + LONGEST_PAUSE
-            self._log(f"{self._name} can't be begun: {error}; it is tried again")
+            self._log(f"{self._name} can't be begun: {trouble_text(error)}; it is tried again")
 
     def _log_lines(self, process: "subprocess.Popen[bytes]") -> None:
         assert process.stdout is not None

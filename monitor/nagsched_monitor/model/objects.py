@@ -1,18 +1,86 @@
-"""The state of each object according to the scheduler's answers, and the due objects."""
+"""The objects of a site, their running checks, their states by the scheduler's answers, and the due objects."""
+import collections
+import enum
 import heapq
 import zlib
 from dataclasses import dataclass, field, replace
-from typing import Any, Dict, Iterable, List, Mapping, Optional, Set, Tuple
+from typing import Any, DefaultDict, Dict, Iterable, List, Mapping, Optional, Sequence, Set, Tuple
 
-from .definitions import ObjectDefinition
+from .jobs import Job
 from .protocol import Abandon, Answer, Call, Done, Enable, Freed, PutOff, Report, Reschedule, Standing, Taken
-from .run_table import ObjectKey, Run, RunTable
 
 # The times of checks that are asked for at once, in their order: a mirror, the object of a passive result, a host that has to be checked now. All are before
 # the times of due checks.
 MIRROR_FIRST, RESULT_FIRST, HOST_FIRST = 0, 1, 2
-# Any time from this one on is a time by the clock.
-FIRST_TIME = 3
+FIRST_TIME = 3  # any time from this one on is a time by the clock
+
+ObjectKey = Tuple[int, str]  # a part and the full name of an object in it
+
+
+@dataclass(frozen=True)
+class Command:
+    """A command line, split unless a shell runs it."""
+
+    arguments: Sequence[str]
+    limit: float  # the limit of the plugin, in seconds
+
+
+@dataclass(frozen=True)
+class ObjectDefinition:
+    name: str
+    part: int
+    host: Optional[str]  # the host of a service; None for a host
+    parents: Sequence[str]
+    check_interval: int
+    enabled: bool  # whether the setup has it enabled
+    retry_interval: int = 0  # the interval while a problem is soft
+    command: Optional[Command] = None
+    period: Optional[str] = None
+    passive_only: bool = False
+    freshness: Optional[int] = None  # milliseconds within which a result has to come; None without a limit
+    runner: Optional[str] = None  # the runner elsewhere that makes its checks; None if they are made here
+
+    def is_host(self) -> bool:
+        return self.host is None
+
+
+class Owner(enum.Enum):
+    """The component that will end a run."""
+
+    NOBODY = "nobody"  # it was taken before this monitor started, or its owner is lost: it is abandoned
+    PLUGIN = "plugin"  # a plugin, here or in a worker
+    RESULT = "result"  # a passive result, which is reported in the next turn
+    ORIGINAL = "original"  # the original of a mirror, whose next result is reported to it too
+
+
+@dataclass
+class Run:
+    """A check that a scheduler returned and that hasn't ended."""
+
+    key: ObjectKey
+    number: int
+    owner: Owner = Owner.NOBODY
+    # The moment after which it is abandoned; None for a mirror's, which ends with the next result of its original.
+    deadline: Optional[int] = None
+    job: Optional[Job] = None
+    forced: bool = False  # as the next try then is
+    retry_at: Optional[int] = None  # the moment at which its check is made again if it is abandoned; None for at once
+    began_at: Optional[float] = None  # when it was taken, in seconds since 1970 of the wall clock
+
+
+class RunTable(Dict[ObjectKey, Run]):
+    """All runs of a site, by their objects: each has one at most. A check that isn't in it doesn't run."""
+
+    def __init__(self) -> None:
+        super().__init__()
+        # Plugins whose runs are over, by the names of their objects: no second plugin is started while they run.
+        self.leftover_jobs: Dict[str, Job] = {}
+
+    def plugins(self) -> List[Job]:
+        return [run.job for run in self.owned_by(Owner.PLUGIN) if run.job is not None] + list(self.leftover_jobs.values())
+
+    def owned_by(self, owner: Owner) -> List[Run]:
+        return [run for run in self.values() if run.owner is owner]
 
 
 @dataclass
@@ -38,8 +106,6 @@ class StateHistory:
 
 @dataclass
 class ObjectState:
-    """The known state of an object."""
-
     definition: ObjectDefinition
     running: RunTable
     # Whether the scheduler has its checks on, and other facts as the scheduler has them.
@@ -73,7 +139,6 @@ class ObjectState:
         return self.next if (self.on or self.forced) and self.next is not None and self.run is None else None
 
     def is_stale(self, now: int) -> bool:
-        """Whether no result came within its freshness."""
         freshness = self.definition.freshness
         if freshness is None or self.forced or self.run is not None:
             return False
@@ -89,51 +154,44 @@ LONGEST_SHARING = 200
 class DueQueue:
     """Objects by the times for which they wait."""
 
-    _times: Dict[str, int] = field(default_factory=dict)
-    # The names by times, and each of these times once. Names whose time has come are due.
-    _names: Dict[int, Set[str]] = field(default_factory=dict)
-    _heap: List[int] = field(default_factory=list)
-    _due: Set[str] = field(default_factory=set)
+    _times: Dict[ObjectKey, int] = field(default_factory=dict)
+    # Each waiting object with its time, and times that aren't an object's any more. Objects whose time has come are due: the names of each part.
+    _heap: List[Tuple[int, ObjectKey]] = field(default_factory=list)
+    _due: DefaultDict[int, Set[str]] = field(default_factory=lambda: collections.defaultdict(set))
 
-    def set_time(self, name: str, time: Optional[int]) -> None:
-        before = self._times.get(name)
-        if time is not None and time == before:
+    def set_time(self, key: ObjectKey, time: Optional[int]) -> None:
+        if time is not None and time == self._times.get(key):
             return
-        self._due.discard(name)
-        if before is not None:
-            del self._times[name]
-            self._names.get(before, set()).discard(name)
+        part, name = key
+        self._due[part].discard(name)
+        self._times.pop(key, None)
         if time is not None:
-            self._times[name] = time
-            if time not in self._names:
-                self._names[time] = set()
-                heapq.heappush(self._heap, time)
-            self._names[time].add(name)
+            self._times[key] = time
+            heapq.heappush(self._heap, (time, key))
 
-    def due_names(self, moment: int) -> Set[str]:
-        while self._heap and self._heap[0] <= moment:
-            self._due |= self._names.pop(heapq.heappop(self._heap))
+    def due_names(self, moment: int) -> DefaultDict[int, Set[str]]:
+        while (first := self.first_time()) is not None and first <= moment:
+            part, name = heapq.heappop(self._heap)[1]
+            self._due[part].add(name)
         return self._due
 
     def first_time(self) -> Optional[int]:
         """The earliest time after the last moment that was asked for."""
-        while self._heap and not self._names[self._heap[0]]:
-            del self._names[heapq.heappop(self._heap)]
-        return self._heap[0] if self._heap else None
+        while self._heap and self._times.get(self._heap[0][1]) != self._heap[0][0]:
+            heapq.heappop(self._heap)
+        return self._heap[0][0] if self._heap else None
 
     def shared_time(self) -> Optional[int]:
         """The time at which enough objects are due for one turn, or at which the last of those is due that share a turn with the first."""
-        first = self.first_time()
-        if first is None:
-            return None
-        times: List[int] = []
-        count, latest = 0, first + LONGEST_SHARING // min(2, len(self._names[first]))
-        while count < ENOUGH and (time := self.first_time()) is not None and time <= latest:
-            count += len(self._names[time])
-            times.append(heapq.heappop(self._heap))
-        for time in times:
-            heapq.heappush(self._heap, time)
-        return times[-1]
+        first = latest = self.first_time() or 0
+        together: Set[Tuple[int, ObjectKey]] = set()
+        while len(together) < ENOUGH and (time := self.first_time()) is not None and time <= latest:
+            together.add(heapq.heappop(self._heap))
+            if time == first:
+                latest = first + LONGEST_SHARING // min(2, len(together))
+        for each in together:
+            heapq.heappush(self._heap, each)
+        return max(together)[0] if together else None
 
 
 class ObjectStates:
@@ -149,7 +207,7 @@ class ObjectStates:
         for name, definition in objects.items():
             earlier = before.pop(name, None) or ObjectState(definition, self.running, definition.enabled, awaited_since=now, known_at=now)
             self.objects[name] = obj = self._state_in_new_site(earlier, definition, now)
-            self.due.set_time(name, obj.due_time())
+            self.due.set_time(obj.key, obj.due_time())
         for obj in before.values():
             self.end_run(obj)
 
@@ -185,7 +243,7 @@ class ObjectStates:
                 self.running.pop(obj.key, None)
             elif run is None or run.number != number:
                 self.running[obj.key] = Run(obj.key, number)
-            self.due.set_time(obj.name, obj.due_time())
+            self.due.set_time(obj.key, obj.due_time())
         return others
 
     def apply_answer(self, obj: ObjectState, call: Call, answer: Answer) -> None:
@@ -205,7 +263,7 @@ class ObjectStates:
             obj.next, obj.forced = call.time, call.forced
         elif isinstance(answer, Done) and isinstance(call, Enable):
             obj.on = call.on
-        self.due.set_time(obj.name, obj.due_time())
+        self.due.set_time(obj.key, obj.due_time())
 
 
 def phase_of(name: str, interval: int) -> int:
