@@ -21,13 +21,13 @@ lines, time periods, passive objects, the groups of each object and the notifica
 monitor's options; if there is no alertmanager.yml, that too. All are replaced together, and keep their owners. In monitor.json the
 members that nagios.cfg doesn't set stay. The limit of concurrent checks is then the monitor's, over all parts. Parts have mirrors: a host, a parent or a master of another part
 is also in the part that needs it. It is never checked there, and the monitor reports the results of its original to it.
+With --retention the site also has the acknowledgements, downtimes and comments of Nagios's state_retention_file.
 
 Settings that are left out, and notifications that need a route of Alertmanager, are named with the objects that they affect: a few of
 these, or with --all each.
 """
 import argparse
 import json
-import math
 import os
 import pathlib
 import sys
@@ -39,11 +39,12 @@ import nagios_groups
 import nagios_notifications
 import nagios_parts
 import nagios_periods
+import nagios_remarks
 import nagios_site
-from nagios_objects import dependency_of, host_of, service_of
+from nagios_objects import dependency_of, host_of, service_of, use_whole_units
 from nagios_values import (
-    FEW, MINUTES, MOST_UNITS, CannotConvert, Definition, LeftOut, Members, Setup, Value, delay, factor, lines_of, number, number_between, percent,
-    read_objects, read_options, reason, switch, whole_number,
+    FEW, MINUTES, CannotConvert, Definition, LeftOut, Members, Setup, Value, delay, factor, lines_of,
+    number_between, percent, read_objects, read_options, reason, switch,
 )
 
 # Each option with a counterpart: how it is read, and Nagios's default.
@@ -139,24 +140,6 @@ def documents_of(options: Members, objects: Sequence[Definition], left_out: Left
     return setup
 
 
-def use_whole_units(setup: Setup) -> None:
-    """Makes every interval whole: if one isn't, the unit becomes the longest that divides them all."""
-    timed = setup["hosts"] + setup["services"]
-    length = setup["options"]["interval_length"]
-    unit = length
-    if any(number(it[name]).denominator != 1 for it in timed for name in ("check_interval", "retry_interval")):
-        for it in timed:
-            for name in ("check_interval", "retry_interval"):
-                seconds = number(it[name]) * length
-                if seconds.denominator != 1:
-                    it[name].refuse(f"{it[name]} units of {length} seconds are no whole seconds")
-                unit = math.gcd(unit, int(seconds))
-    setup["options"]["interval_length"] = unit
-    for it in timed:
-        for name in ("check_interval", "retry_interval"):
-            it[name] = whole_number(it[name], number(it[name]) * length / unit, 0, MOST_UNITS)
-
-
 # ---- parts
 
 
@@ -199,13 +182,9 @@ def add_commands(arguments: argparse.Namespace, options: Members, objects: Seque
 
 def disable(setup: Setup, without: Mapping[str, str]) -> None:
     """Disables the objects that have no command line, and prints why."""
-    for host in setup["hosts"]:
-        if host["name"] in without:
-            host["enabled"] = False
-    for service in setup["services"]:
-        if f"{service['host']};{service['description']}" in without:
-            service["enabled"] = False
-    for why in without.values():
+    objects = nagios_parts.objects_by_name(setup)
+    for name, why in without.items():
+        objects[name]["enabled"] = False
         print(f"without a command, and disabled: {why}", file=sys.stderr)
 
 
@@ -215,8 +194,7 @@ def disable(setup: Setup, without: Mapping[str, str]) -> None:
 def write_site_files(arguments: argparse.Namespace, options: Members, objects: Sequence[Definition], setup: Setup, left_out: LeftOut) -> None:
     """Writes the files of a site, and prints what is left out."""
     unit = setup["options"]["interval_length"]
-    interval_of = {it["name"]: it["check_interval"] * unit for it in setup["hosts"]}
-    interval_of |= {f"{it['host']};{it['description']}": it["check_interval"] * unit for it in setup["services"]}
+    interval_of = {name: it["check_interval"] * unit for name, it in nagios_parts.objects_by_name(setup).items()}
     resource = macros_of_file(arguments, options)
     lines, without = nagios_commands.commands_of(objects, resource)
     commands = nagios_site.commands_of(options, objects, lines)
@@ -235,6 +213,8 @@ def write_site_files(arguments: argparse.Namespace, options: Members, objects: S
         files[nagios_site.ALERTING] = nagios_alerting.yaml_text(nagios_alerting.configuration(options, objects, files["groups"], unit_of(options), left_out))
     try:
         files["monitor"] = nagios_site.monitor_of(options, nagios_site.options_before(arguments.site))
+        if arguments.retention is not None:
+            files["remarks"] = {"remarks": nagios_remarks.remarks_of(arguments.retention, interval_of, left_out)}
         nagios_site.write_site(arguments.site, setups, {**files, **({"mirrors": mirrors} if mirrors else {})})
     except nagios_site.CannotWrite as error:
         raise CannotConvert(str(error)) from None
@@ -250,12 +230,12 @@ def write_site_files(arguments: argparse.Namespace, options: Members, objects: S
 
 
 def files_of_people(options: Members, objects: Sequence[Definition], resource: Mapping[str, str], left_out: LeftOut) -> Dict[str, Dict[str, Any]]:
-    """The groups of each object with the notifications that it wants, and what people see of it."""
+    """The groups of each object with the notifications that it wants, and what people see of it, of groups and of contacts."""
     groups = nagios_groups.Groups(objects).document(objects)
     notifications, shown = nagios_notifications.of_objects(objects, unit_of(options), resource, left_out)
     for name, record in notifications.items():
         groups.setdefault(name, {})["notifications"] = record
-    return {"groups": groups, "inventory": shown}
+    return {"groups": groups, "inventory": shown, "directory": nagios_groups.directory(objects)}
 
 
 def unit_of(options: Members) -> int:
@@ -273,6 +253,7 @@ def main() -> int:
     parser.add_argument("--commands", metavar="FILE", type=pathlib.Path, help="write the command line of each object into this file")
     parser.add_argument("--site", metavar="DIRECTORY", type=pathlib.Path, help="write the files of a site into this folder")
     parser.add_argument("--all", action="store_true", help="with --site: name every object that something is left out for")
+    parser.add_argument("--retention", metavar="FILE", type=pathlib.Path, help="with --site: take over what people said, from Nagios's retention.dat")
     parser.add_argument("--resource", metavar="FILE", type=pathlib.Path, help="the resource file, if not the one that nagios.cfg names")
     parser.add_argument("options", metavar="nagios.cfg", type=pathlib.Path)
     parser.add_argument("objects", metavar="objects.precache", type=pathlib.Path)

@@ -42,8 +42,8 @@ done
 place 755 "$top/tools/from_nagios.py" lib/nagsched/from_nagios.py
 place 644 "$top/VERSION" lib/nagsched/VERSION
 place 755 "$top/tools/second_opinion.py" lib/nagsched/second_opinion.py
-for module in "$top"/tools/second_opinion_*.py; do
-    place 644 "$module" "lib/nagsched/$(basename "$module")"
+for file in "$top"/tools/second_opinion_*.py "$top"/tools/second_opinion.{cfg,html}; do
+    place 644 "$file" "lib/nagsched/$(basename "$file")"
 done
 # The judge's rules, which the second opinion shares.
 for module in model rows; do
@@ -73,7 +73,7 @@ done
 for example in office.txt office.out sequence.txt sequence.out drill.txt drill.out embed.c loop.c alertmanager.yml alert_rules.yml prometheus.yml; do
     place 644 "$top/examples/$example" "share/doc/nagsched/examples/$example"
 done
-for example in embed.py loop.py monitor.py mail_change.py; do
+for example in embed.py loop.py monitor.py mail_change.py spool_to_graphite.py; do
     place 755 "$top/examples/$example" "share/doc/nagsched/examples/$example"
 done
 # The loop in Rattle is a part of nagsched_loop: its file and, in a folder, the modules that it names.

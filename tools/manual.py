@@ -1,22 +1,23 @@
 #!/usr/bin/env python3
-"""Writes the manual pages: nagsched(1), nagsched(5), nagsched-monitor(1), nagsched-from-nagios(1), and those of section 3.
+"""Writes the manual pages: nagsched(1), nagsched(5), nagsched-monitor(1), nagsched-from-nagios(1), nagsched-second-opinion(1), and those of section 3.
 
     tools/manual.py DIRECTORY
 
 Each is made from sections of the pages in docs/, under the usual headings of manual pages, so that nothing is written twice. Those of section 3 are
 made from the comments of the C header.
 """
+import os
 import pathlib
 import re
+import subprocess
 import sys
-import textwrap
-from typing import Dict, Iterator, List, Tuple
+from typing import Dict, Iterator, List, Tuple, Union
 
 import manual_c
+from manual_roff import body, roff_inline, roff_line, roff_text, tidy_lines
 
 TOP = pathlib.Path(__file__).resolve().parent.parent
 DATE = "2026-11-28"
-WIDTH = 110
 VERSION = (TOP / "VERSION").read_text(encoding="utf-8").strip()
 HEADER = (TOP / "include/nagsched.h").read_text(encoding="utf-8")
 SUMMARY = {
@@ -24,18 +25,11 @@ SUMMARY = {
     ("nagsched", 5): "setup, saved states and refusals of nagsched",
     ("nagsched-monitor", 1): "run the checks of a site",
     ("nagsched-from-nagios", 1): "convert a Nagios configuration",
+    ("nagsched-second-opinion", 1): "judge each result of a running Nagios, too",
 }
-# Names that differ in an installation.
-INSTALLED = {
-    "tools/from_nagios.py": "nagsched-from-nagios",
-    "monitor/nagsched-monitor": "nagsched-monitor",
-    "crates/nagsched/out/nagsched": "nagsched",
-    "tools/timeline.py": "timeline.py",
-    "examples/": "share/doc/nagsched/examples/",
-    "docs/": "share/doc/nagsched/",
-}
-# The sections of each manual page: a text, or the parts of each, as a page and a title there. The title "" is the text before the first section.
-PARTS = {
+# The sections of each manual page: a text, a script whose help has them, or the parts of each, as a page and a title there. The title "" is the text before
+# the first section.
+PARTS: Dict[Tuple[str, int], Dict[str, Union[str, pathlib.Path, List[Tuple[str, str]]]]] = {
     ("nagsched", 1): {
         "Synopsis": [("program", "Synopsis")],
         "Description": [("program", ""), ("program", "Input"), ("program", "Answers"), ("program", "run"), ("program", "live"), ("program", "check"), ("program", "drill")],
@@ -68,12 +62,21 @@ PARTS = {
         "Exit status": [("from-nagios", "Exit statuses")],
         "Examples": [("from-nagios", "Compare the schedule")],
     },
+    ("nagsched-second-opinion", 1): {
+        "Synopsis": "`nagsched-second-opinion --lines FILE`, or `nagsched-second-opinion [--follow] [OPTIONS] nagios.cfg RESULTS..`",
+        "Description": [("second-opinion", ""), ("second-opinion", "Read the report"), ("second-opinion", "Limits")],
+        "Options": TOP / "tools/second_opinion.py",
+        "Files": "It reads the files that `nagios.cfg` names as `object_cache_file`, `status_file`, `log_file` and `log_archive_path`.",
+        "Exit status": "0: the report is printed. 1: a file can't be read, or `nagsched` gives no verdict. 2: the arguments are wrong.",
+        "Examples": [("second-opinion", "Let Nagios write its results"), ("second-opinion", "Compare")],
+    },
 }
 SEE = {
     ("nagsched", 1): "nagsched(5), nagsched(3), nagsched-monitor(1), nagsched-from-nagios(1)",
     ("nagsched", 5): "nagsched(1), nagsched-monitor(1)",
     ("nagsched-monitor", 1): "nagsched(1), nagsched(5), nagsched-from-nagios(1), systemd(1)",
     ("nagsched-from-nagios", 1): "nagsched-monitor(1), nagsched(1), nagsched(5)",
+    ("nagsched-second-opinion", 1): "nagsched-from-nagios(1), nagsched-monitor(1), nagsched(1)",
 }
 
 
@@ -97,124 +100,6 @@ def sections_of(page: pathlib.Path) -> Dict[str, List[str]]:
 # ---- writing
 
 
-def roff_text(text):
-    """A text whose characters mean nothing to roff."""
-    return text.replace("\\", "\\e").replace("-", "\\-").replace("'", "\\(aq").replace("`", "\\(ga").replace("^", "\\(ha").replace("~", "\\(ti")
-
-
-def roff_inline(text):
-    """A text with its links as words, and texts between backticks in bold."""
-    text = re.sub(r"!\[[^]]*\]\([^)]*\)", "", text)
-    text = re.sub(r"\[([^]]*)\]\([^)]*\)", r"\1", text)
-    text = with_installed_names(text)
-    parts = re.split(r"`([^`]*)`", text)
-    return "".join(f"\\fB{roff_text(part)}\\fR" if place % 2 else roff_text(part.replace("**", "")) for place, part in enumerate(parts))
-
-
-def with_installed_names(text):
-    """A text with the names under which files are installed."""
-    for path, name in INSTALLED.items():
-        text = text.replace(path, name)
-    return text
-
-
-def roff_line(text):
-    """A line of roff that begins with no dot."""
-    return "\\&" + text if text.startswith(".") else text
-
-
-def cells_of(row):
-    return [cell.strip().replace("\\|", "|") for cell in re.split(r"(?<!\\)\|", row.strip().strip("|"))]
-
-
-def table(rows):
-    """A table as a list: the first cell of each row, and then the others, each after its heading if there are more than one."""
-    head, *body = [cells_of(row) for row in [rows[0], *rows[2:]]]
-    if len(head) > 2:
-        yield from [".PP", roff_line("\\fI" + "\\fR, \\fI".join(roff_text(name) for name in head) + "\\fR:")]
-    yield ".PD 0"
-    for first, *others in body:
-        tag = roff_inline(first).replace('"', "\\(dq")
-        yield f'.IP "{tag}" 4'
-        said = [cell if len(others) == 1 else f"{name}: {cell}" for name, cell in zip(head[1:], others) if cell]
-        yield roff_line(roff_inline(". ".join(text.rstrip(".") for text in said)) if said else "\\&")
-    yield ".PD"
-
-
-def blocks_of(lines):
-    """The blocks of a section: their kind and their lines."""
-    kind, block = None, []
-    for text in lines:
-        if kind == "code":
-            if text.startswith("```"):
-                yield kind, block
-                kind, block = None, []
-            else:
-                block.append(text)
-            continue
-        now = "code" if text.startswith("```") else "table" if text.startswith("|") else "list" if re.match(r"(- |\d+\. )", text) \
-            else "heading" if text.startswith("#") else "text" if text.strip() else None
-        if now == "text" and kind == "list" and text.startswith(" "):
-            now = "list"
-        if now != kind or now == "heading":
-            if kind is not None and block:
-                yield kind, block
-            kind, block = now, []
-        if now not in (None, "code"):
-            block.append(text)
-    if kind is not None and block:
-        yield kind, block
-
-
-def items_of(lines):
-    """The items of a list, each on one line."""
-    items = []
-    for text in lines:
-        match = re.match(r"(- |\d+\. )(.*)", text)
-        if match:
-            items.append([match[1].strip(), match[2]])
-        else:
-            items[-1][1] += " " + text.strip()
-    return items
-
-
-def body(lines: List[str]) -> Iterator[str]:
-    """A section without its heading."""
-    for kind, block in blocks_of(lines):
-        if kind == "code":
-            yield from [".PP", ".nf", ".RS 4", *(roff_line(roff_text(with_installed_names(text))) for text in block), ".RE", ".fi"]
-        elif kind == "table":
-            yield from table(block)
-            yield ".PP"
-        elif kind == "list":
-            for mark, text in items_of(block):
-                bullet = "\\(bu" if mark == "-" else mark
-                yield from [f'.IP "{bullet}" 3', roff_line(roff_inline(text))]
-            yield ".PP"
-        elif kind == "heading":
-            yield f".SS {roff_inline(block[0].lstrip('# '))}"
-        else:
-            yield from [".PP", roff_line(roff_inline(" ".join(text.strip() for text in block)))]
-
-
-def tidy_lines(lines):
-    """The lines without empty paragraphs, with long lines of text broken at spaces."""
-    kept, in_code = [], False
-    for text in lines:
-        in_code = text == ".nf" or in_code and text != ".fi"
-        if text.startswith((".SH", ".SS", ".PP", ".IP")) and kept and kept[-1] == ".PP":
-            kept.pop()
-        if text == ".PP" and kept and kept[-1].startswith((".SH", ".SS")):
-            continue
-        if text.startswith(".") or in_code:
-            kept.append(text)
-        else:
-            kept += [roff_line(part) for part in textwrap.wrap(text, WIDTH, break_long_words=False, break_on_hyphens=False)]
-    while kept and kept[-1] == ".PP":
-        kept.pop()
-    return kept
-
-
 def head_of(name: str, number: int, names: List[str], summary: str) -> Iterator[str]:
     """The title of a manual page, and the line of its names."""
     yield f'.TH {name.upper()} {number} "{DATE}" "nagsched {VERSION}" "nagsched"'
@@ -231,13 +116,20 @@ def see_also(others: List[str], last: str) -> Iterator[str]:
     yield from [".PP", last]
 
 
+def options_of(script: pathlib.Path) -> Iterator[str]:
+    """The options of a script with their meanings, from its help."""
+    told = subprocess.run([sys.executable, script, "--help"], env={**os.environ, "COLUMNS": "1000"}, stdout=subprocess.PIPE, text=True, check=True).stdout
+    for option, meaning in re.findall(r"^  (?:-h, )?(--\S+(?: [A-Z]+)?) +(.*)$", told, re.MULTILINE):
+        yield from [f'.IP "\\fB{roff_text(option)}\\fR" 4', roff_line(roff_inline(meaning))]
+
+
 def page_of(name: str, number: int) -> Iterator[str]:
     """A page made from sections of pages."""
     yield from head_of(name, number, [name], SUMMARY[name, number])
     for heading, parts in PARTS[name, number].items():
         yield f".SH {heading.upper()}"
-        if isinstance(parts, str):
-            yield from [".PP", roff_line(roff_inline(parts))]
+        if isinstance(parts, (str, pathlib.Path)):
+            yield from [".PP", roff_line(roff_inline(parts))] if isinstance(parts, str) else options_of(parts)
             continue
         for page, title in parts:
             if title and len(parts) > 1 or title.lower() not in (heading.lower(), "exit statuses", "examples", ""):

@@ -6,7 +6,7 @@ names of the others lead there.
 import itertools
 import re
 import textwrap
-from typing import Dict, Iterator, List, NamedTuple
+from typing import Iterator, List, NamedTuple
 
 # A comment, and what follows it up to the next comment at the beginning of a line, or an empty line before a line of the preprocessor.
 COMMENT = re.compile(r"^/\* ?(.*?)\*/\n(.*?)(?=^/\*|^#|\Z)", re.M | re.S)

@@ -8,15 +8,14 @@ import collections
 import re
 from typing import Any, Dict, FrozenSet, Iterator, List, Mapping, NamedTuple, Optional, Sequence, Set, Tuple
 
-from nagios_groups import split_list
-from nagios_notifications import HOST_WORDS, INTERVAL, SERVICE_WORDS, options_of, seconds_of
+from nagios_contacts import SEVERITIES, WORDS, Contact, Dependencies, Escalation, Notifications
+from nagios_notifications import INTERVAL
 from nagios_time_intervals import Intervals
-from nagios_values import Definition, LeftOut, Members, Value, number, switch
+from nagios_values import Definition, LeftOut, Members
+from nagios_yaml import yaml_lines
 
-PROBLEM, FLAPPING, HEARTBEAT, NOT_CHECKED = "NagschedProblem", "NagschedFlapping", "NagschedHeartbeat", "NagschedNotChecked"
+PROBLEM, FLAPPING, HEARTBEAT, NOT_CHECKED, HELD = "NagschedProblem", "NagschedFlapping", "NagschedHeartbeat", "NagschedNotChecked", "NagschedHeld"
 NOBODY, OPERATORS, ALIVE = "nobody", "operators", "dead-mans-switch"
-WORDS = {"host": HOST_WORDS, "service": SERVICE_WORDS}
-SEVERITIES = ("warning", "critical", "unknown", "unreachable")
 # An interval of 0 in Nagios: there is no second notification.
 ONCE = "52w"
 HEAD = """# Made by nagsched-from-nagios from Nagios's contacts, escalations and dependencies. It is yours now: the converter doesn't write it again.
@@ -28,27 +27,6 @@ HEAD = """# Made by nagsched-from-nagios from Nagios's contacts, escalations and
 
 Record = Dict[str, Any]
 Route = Dict[str, Any]
-
-
-class Contact(NamedTuple):
-    """A contact: its mail address, its groups, and for hosts and services the words of what it wants and the name of the period."""
-
-    name: str
-    email: str
-    groups: Sequence[str]
-    wants: Mapping[str, Sequence[str]]
-    periods: Mapping[str, str]
-
-
-class Escalation(NamedTuple):
-    """An escalation of one object. An interval of None is that of the object; a last number of 0 is none."""
-
-    contacts: FrozenSet[str]
-    first: int
-    last: int
-    interval: Optional[int]
-    options: FrozenSet[str]
-    period: str
 
 
 class Variant(NamedTuple):
@@ -88,81 +66,6 @@ def of_kind(kind: str) -> str:
 def variant_of(record: Mapping[str, Any]) -> Variant:
     seconds = {key: f"{record[key]}s" if key in record else "" for key in ("delay", "interval")}
     return Variant(record.get("period", ""), seconds["delay"], seconds["interval"], "recovery" in record.get("options", ["recovery"]))
-
-
-# ---- Nagios's objects
-
-
-class Notifications:
-    """The contacts of a configuration, and the escalations and dependencies of notifications of its objects."""
-
-    def __init__(self, objects: Sequence[Definition], length: int, report: LeftOut) -> None:
-        self.objects, self._length, self._report = objects, length, report
-        self.groups: Dict[str, List[str]] = {}
-        self.mail_commands = {str(members["command_name"]) for kind, _, members in objects
-                              if kind == "command" and "$CONTACTEMAIL$" in members.get("command_line", "")}
-        for kind, _, members in objects:
-            if kind == "contactgroup":
-                self.groups[str(members["contactgroup_name"])] = split_list(members.get("members", ""))
-        self.contacts = [self._contact(members) for kind, _, members in objects if kind == "contact"]
-
-    def _contact(self, members: Members) -> Contact:
-        name = str(members["contact_name"])
-        wants, periods = {}, {}
-        for kind, words in WORDS.items():
-            is_on = switch(members.get(f"{kind}_notifications_enabled", Value("1", name)))
-            wants[kind] = options_of(members.get(f"{kind}_notification_options", Value("n", name)), words) if is_on else []
-            periods[kind] = str(members.get(f"{kind}_notification_period", ""))
-        commands = {each for kind in WORDS for each in split_list(members.get(f"{kind}_notification_commands", ""))}
-        email = str(members.get("email", ""))
-        if not email or commands and not commands & self.mail_commands:
-            self._report.add("contacts without mail", "their receivers in alertmanager.yml notify nobody until you give them a way", name, "needs a receiver")
-            email = ""
-        elif "@" not in email:
-            self._report.add("mail addresses without a domain", "Alertmanager can't send mail to them: add the domain", name, "needs a receiver")
-        return Contact(name, email, sorted(group for group, its in self.groups.items() if name in its), wants, periods)
-
-    def escalations(self) -> Dict[str, List[Escalation]]:
-        """The escalations of each object."""
-        found: Dict[str, List[Escalation]] = collections.defaultdict(list)
-        for kind, _, members in self.objects:
-            if kind in ("hostescalation", "serviceescalation"):
-                of = kind.removesuffix("escalation")
-                found[object_of(members)].append(self._escalation(of, members))
-        return found
-
-    def _escalation(self, kind: str, members: Members) -> Escalation:
-        place = Value("0", object_of(members))
-        groups = split_list(members.get("contact_groups", ""))
-        contacts = {*split_list(members.get("contacts", "")), *(name for group in groups for name in self.groups.get(group, ()))}
-        interval = members.get("notification_interval", Value("-1", place))
-        if int(members.get("last_notification", place)):
-            self._report.add(f"last_notification of a {kind}escalation", "its contacts are notified until the problem ends", object_of(members), "differs")
-        return Escalation(frozenset(contacts), int(members.get("first_notification", place)), int(members.get("last_notification", place)),
-                          seconds_of(interval, self._length) if number(interval) >= 0 else None,
-                          frozenset(options_of(members.get("escalation_options", Value("a", place)), WORDS[kind])), str(members.get("escalation_period", "")))
-
-    def dependencies(self) -> Dict[str, List[Tuple[str, FrozenSet[str], bool]]]:
-        """The masters of each dependent: the name, the severities at which it holds notifications back, and whether its own masters do so too."""
-        found: Dict[str, List[Tuple[str, FrozenSet[str], bool]]] = collections.defaultdict(list)
-        for kind, _, members in self.objects:
-            criteria = members.get("notification_failure_options", members.get("notification_failure_criteria"))
-            if kind not in ("hostdependency", "servicedependency") or criteria is None:
-                continue
-            words = {letter: word for letter, word in WORDS[kind.removesuffix("dependency")].items() if word in SEVERITIES}
-            letters, dependent = split_list(criteria), object_of(members, "dependent_")
-            for letter in sorted({*letters} & {"o", "p"}):
-                self._report.add(f"notification_failure_options {letter}", "an object without a problem has no alert that could hold back others", dependent)
-            if members.get("dependency_period", "") not in ("", *self._report.always):
-                self._report.add("dependency_period", "notifications are held back at any time", dependent)
-            severities = frozenset(word for letter, word in words.items() if letters == ["a"] or letter in letters)
-            found[dependent].append((object_of(members), severities, switch(members.get("inherits_parent", Value("0", dependent)))))
-        return found
-
-
-def object_of(members: Members, before: str = "") -> str:
-    host, description = members[f"{before}host_name"], members.get(f"{before}service_description")
-    return str(host) if description is None else f"{host};{description}"
 
 
 def kind_of(name: str) -> str:
@@ -304,10 +207,6 @@ def moment_of(count: int, wishes: Record, escalations: Sequence[Escalation], len
 # ---- inhibition
 
 
-# The masters of each dependent: the name, the severities at which it holds notifications back, and whether its own masters do so too.
-Dependencies = Mapping[str, Sequence[Tuple[str, FrozenSet[str], bool]]]
-
-
 def masters_of(name: str, dependencies: Dependencies, seen: FrozenSet[str]) -> Iterator[Tuple[str, FrozenSet[str]]]:
     """The masters that hold back an object, and those above them."""
     for master, severities, inherits in dependencies.get(name, ()):
@@ -318,9 +217,11 @@ def masters_of(name: str, dependencies: Dependencies, seen: FrozenSet[str]) -> I
 
 
 def inhibition(notifications: Notifications) -> List[Route]:
-    """Services of a host that isn't up, objects that flap, and dependents whose masters have problems. The last ones of a host are held back with its
-    services."""
+    """Objects that remarks hold, services of a host that isn't up, objects that flap, and dependents whose masters have problems. The last ones of a host
+    are held back with its services."""
     rules: List[Route] = [
+        {"source_matchers": [matcher("alertname", "=", HELD)], "target_matchers": [matcher("alertname", "=~", f"{PROBLEM}|{FLAPPING}")],
+         "equal": ["site", "host", "service"]},
         {"source_matchers": [matcher("alertname", "=", PROBLEM), of_kind("host")], "target_matchers": [matcher("alertname", "=", PROBLEM), of_kind("service")],
          "equal": ["site", "host"]},
         {"source_matchers": [matcher("alertname", "=", FLAPPING)], "target_matchers": [matcher("alertname", "=", PROBLEM)],
@@ -375,7 +276,8 @@ def configuration(options: Members, objects: Sequence[Definition], groups: Mappi
         "repeat_interval": f"{INTERVAL * length}s",
         "routes": [
             {"matchers": [matcher("alertname", "=", HEARTBEAT)], "receiver": ALIVE, "group_wait": "0s", "group_interval": "1m", "repeat_interval": "1m"},
-            {"matchers": [matcher("alertname", "=", NOT_CHECKED)], "receiver": OPERATORS}, *off, *mutes(), *found],
+            {"matchers": [matcher("alertname", "=", NOT_CHECKED)], "receiver": OPERATORS},
+            {"matchers": [matcher("alertname", "=", HELD)], "receiver": NOBODY}, *off, *mutes(), *found],
     }
     address = {contact.name: contact.email for contact in notifications.contacts}
     receivers = [{"name": NOBODY}, {"name": ALIVE}, receiver(OPERATORS, admin, True),
@@ -388,37 +290,6 @@ def configuration(options: Members, objects: Sequence[Definition], groups: Mappi
 
 def receiver(name: str, email: str, has_recoveries: bool) -> Record:
     return {"name": name, **({"email_configs": [{"to": email, "send_resolved": has_recoveries}]} if email else {})}
-
-
-# ---- YAML
-
-PLAIN = re.compile(r"[A-Za-z_]\w*")
-# Words that YAML takes for something else.
-NO_TEXTS = {"y", "n", "yes", "no", "on", "off", "true", "false", "null"}
-
-
-def scalar(value: object) -> str:
-    if isinstance(value, bool):
-        return str(value).lower()
-    text = str(value)
-    quoted = "'" + text.replace("'", "''") + "'"
-    return text if PLAIN.fullmatch(text) and text.lower() not in NO_TEXTS else quoted
-
-
-def yaml_lines(value: Record, indent: str = "") -> Iterator[str]:
-    """A mapping as lines of YAML: lists of texts on one line, others with an item each."""
-    for key, item in value.items():
-        if isinstance(item, dict):
-            yield f"{indent}{key}:"
-            yield from yaml_lines(item, indent + "  ")
-        elif isinstance(item, list) and any(isinstance(each, dict) for each in item):
-            yield f"{indent}{key}:"
-            for each in item:
-                lines = list(yaml_lines(each, indent + "    "))
-                yield f"{indent}  - {lines[0].strip()}"
-                yield from lines[1:]
-        else:
-            yield f"{indent}{key}: " + (f"[{', '.join(map(scalar, item))}]" if isinstance(item, list) else scalar(item))
 
 
 def yaml_text(document: Record) -> str:

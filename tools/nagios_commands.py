@@ -6,7 +6,8 @@ import sys
 import urllib.parse
 from typing import Callable, Dict, Iterable, List, Mapping, NamedTuple, Optional, Sequence, Tuple
 
-from nagios_groups import Definition, Groups, Members, split_list
+from nagios_groups import Groups
+from nagios_values import Definition, Members, full_name, split_list
 
 # The macros whose values are known before Nagios runs, each with its member; every other macro of capital letters has a value only at run time.
 HOST_MACROS = {"NAME": "host_name", "ALIAS": "alias", "DISPLAYNAME": "display_name", "ADDRESS": "address", "CHECKCOMMAND": "check_command"}
@@ -97,7 +98,7 @@ class Macros:
         if service is None:
             return None
         if name == "GROUPNAMES":
-            return ",".join(self._network.groups.of_service.get(f"{service['host_name']};{service['service_description']}", []))
+            return ",".join(self._network.groups.of_service.get(full_name(service), []))
         own_host = self._network.hosts.get(service["host_name"], service)
         return Macros(self._network, own_host, service).of_member(service, name, SERVICE_MACROS)
 
@@ -108,7 +109,7 @@ class Macros:
     def _service_group(self, name: str, of: str) -> Optional[str]:
         if name == "NAMES":
             return self._of_service("GROUPNAMES", of)
-        own = "" if self._service is None else f"{self._host['host_name']};{self._service['service_description']}"
+        own = "" if self._service is None else full_name(self._service)
         return self._of_group("service", name, of, self._network.groups.of_service.get(own, []))
 
     def _of_group(self, kind: str, name: str, of: str, own: Sequence[str]) -> Optional[str]:
@@ -140,9 +141,9 @@ class Network:
 
     def __init__(self, objects: Sequence[Definition], resource: Mapping[str, str]) -> None:
         self.resource, self.groups = resource, Groups(objects)
-        self.commands = {members["command_name"]: str(members["command_line"]) for kind, _, members in objects if kind == "command"}
+        self.commands = {str(members["command_name"]): str(members["command_line"]) for kind, _, members in objects if kind == "command"}
         self.hosts = {str(members["host_name"]): members for kind, _, members in objects if kind == "host"}
-        self.services = {f"{members['host_name']};{members['service_description']}": members for kind, _, members in objects if kind == "service"}
+        self.services = {full_name(members): members for kind, _, members in objects if kind == "service"}
 
     def line_of(self, members: Members, service: Optional[Members]) -> CommandLine:
         """The command line of one object."""
@@ -207,10 +208,9 @@ def commands_of(objects: Sequence[Definition], resource: Mapping[str, str]) -> T
     for kind, place, members in objects:
         if kind not in ("host", "service"):
             continue
-        service = members if kind == "service" else None
-        name = f"{members['host_name']};{members['service_description']}" if service is not None else str(members["host_name"])
+        name = full_name(members)
         try:
-            lines[name] = network.line_of(members, service)
+            lines[name] = network.line_of(members, members if kind == "service" else None)
         except NoCommand as why:
             without[name] = f"{place}: {name}: {why}"
     return lines, without

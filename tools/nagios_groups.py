@@ -1,15 +1,27 @@
-"""The groups of a configuration of Nagios Core 4: the host, service and contact groups of each object. For from_nagios.py."""
+"""The groups of a configuration of Nagios Core 4: the host, service and contact groups of each object, and what people see of groups and contacts. For
+from_nagios.py."""
 import collections
-from typing import Any, Dict, List, Mapping, Sequence, Tuple
+from typing import Any, Dict, List, Sequence
 
-Members = Mapping[str, str]
-# An object of a file: its kind, its place and its members.
-Definition = Tuple[str, str, Members]
+from nagios_values import Definition, Members, checked_objects, split_list
 
 
-def split_list(text: str) -> List[str]:
-    """The names of a list with commas."""
-    return [name.strip() for name in text.split(",") if name.strip()]
+# The kinds of definitions that are listed, by their kinds in the site, and their members that are shown.
+LISTED = {"host_groups": "hostgroup", "service_groups": "servicegroup", "contact_groups": "contactgroup", "contacts": "contact"}
+SHOWN = ("alias", "notes", "notes_url", "action_url", "email", "pager")
+
+
+def directory(objects: Sequence[Definition]) -> Dict[str, Dict[str, Any]]:
+    """What people see of each group and each contact, by their kind and name."""
+    found: Dict[str, Dict[str, Any]] = {}
+    for listed, of in LISTED.items():
+        for members in (members for kind, _, members in objects if kind == of):
+            name = str(members[f"{of}_name"])
+            shown: Dict[str, Any] = {member: str(members[member]) for member in SHOWN if member in members and members[member] != name}
+            if of == "contactgroup":
+                shown["members"] = sorted(split_list(members.get("members", "")))
+            found.setdefault(listed, {})[name] = shown
+    return found
 
 
 def service_names(text: str) -> List[str]:
@@ -42,14 +54,10 @@ class Groups:
     def document(self, objects: Sequence[Definition]) -> Dict[str, Dict[str, Any]]:
         """The groups and contacts of each object that has some, by its full name. A service is in the host groups of its host."""
         document = {}
-        for kind, _, members in objects:
-            if kind not in ("host", "service"):
-                continue
-            host = str(members["host_name"])
-            name = f"{host};{members['service_description']}" if kind == "service" else host
+        for name, _, members in checked_objects(objects):
             several = {
-                "host_groups": sorted(self.of_host.get(host, [])),
-                "service_groups": sorted(self.of_service.get(name, [])) if kind == "service" else [],
+                "host_groups": sorted(self.of_host.get(members["host_name"], [])),
+                "service_groups": sorted(self.of_service.get(name, [])),
                 "contact_groups": sorted(split_list(members.get("contact_groups", ""))),
                 "contacts": sorted(split_list(members.get("contacts", ""))),
             }

@@ -4,7 +4,7 @@ import math
 from typing import Any, Dict, List, Mapping, Sequence, Tuple
 
 import nagios_commands
-from nagios_values import Definition, LeftOut, Members, Value, number, switch, whole_number
+from nagios_values import Definition, LeftOut, Members, Value, checked_objects, number, switch, whole_number
 
 # The words for the letters of notification_options: the severity of an alert, a recovery and flapping. There are no notifications of downtimes (s).
 HOST_WORDS = {"d": "critical", "u": "unreachable", "r": "recovery", "f": "flapping"}
@@ -87,8 +87,6 @@ def of_objects(objects: Sequence[Definition], length: int, resource: Mapping[str
     """The notifications of each object that wants others than Nagios's defaults, and what people see of each object, by full names."""
     network, wishes = nagios_commands.Network(objects, resource), Wishes(length, sorted(report.always), report)
     records, shown = {}, {}
-    for kind, _, members in objects:
-        if kind in ("host", "service"):
-            name = f"{members['host_name']};{members['service_description']}" if kind == "service" else str(members["host_name"])
-            records[name], shown[name] = wishes.record_of(kind, members, name), shown_of(network, kind, members, name, report)
+    for name, kind, members in checked_objects(objects):
+        records[name], shown[name] = wishes.record_of(kind, members, name), shown_of(network, kind, members, name, report)
     return {name: it for name, it in records.items() if it}, {name: it for name, it in shown.items() if it}

@@ -1,7 +1,8 @@
 """Hosts, services and dependencies of a configuration of Nagios Core 4, as a setup has them. For from_nagios.py."""
+import math
 from typing import Dict, Optional, Tuple
 
-from nagios_values import LeftOut, Members, Setup, Value, number, required, switch, whole_number
+from nagios_values import MOST_UNITS, LeftOut, Members, Setup, Value, number, required, switch, whole_number
 
 TAKEN = {"host_name", "service_description", "parents", "check_interval", "retry_interval", "max_check_attempts", "active_checks_enabled"}
 # Members without a counterpart: the values at which they change nothing, their kind, and the effect here.
@@ -123,3 +124,21 @@ def dependency_of(members: Members, place: str, service: bool, left_out: LeftOut
     if switch(members.get("inherits_parent", Value("0", place))):
         dependency["inherits_parent"] = True
     return dependency
+
+
+def use_whole_units(setup: Setup) -> None:
+    """Makes every interval whole: if one isn't, the unit becomes the longest that divides them all."""
+    timed = setup["hosts"] + setup["services"]
+    length = setup["options"]["interval_length"]
+    unit = length
+    if any(number(it[name]).denominator != 1 for it in timed for name in ("check_interval", "retry_interval")):
+        for it in timed:
+            for name in ("check_interval", "retry_interval"):
+                seconds = number(it[name]) * length
+                if seconds.denominator != 1:
+                    it[name].refuse(f"{it[name]} units of {length} seconds are no whole seconds")
+                unit = math.gcd(unit, int(seconds))
+    setup["options"]["interval_length"] = unit
+    for it in timed:
+        for name in ("check_interval", "retry_interval"):
+            it[name] = whole_number(it[name], number(it[name]) * length / unit, 0, MOST_UNITS)

@@ -36,6 +36,11 @@ def service_name(service: Setup) -> str:
     return f"{service['host']};{service['description']}"
 
 
+def objects_by_name(setup: Setup) -> Dict[str, Setup]:
+    """The hosts and services of a setup by their full names."""
+    return {host["name"]: host for host in setup["hosts"]} | {service_name(service): service for service in setup["services"]}
+
+
 def host_of(name: str) -> str:
     """The host of an object by its full name."""
     return name.partition(";")[0]

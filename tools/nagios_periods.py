@@ -2,7 +2,7 @@
 import calendar
 import datetime
 import re
-from typing import Any, Dict, List, Mapping, Optional, Sequence, Set, Tuple, Union
+from typing import Any, Dict, List, Mapping, Sequence, Set, Tuple, Union
 
 from nagios_values import Definition, Value
 

@@ -7,12 +7,11 @@ import pathlib
 import pwd
 import time
 import zoneinfo
-from typing import Any, Dict, Iterator, List, Mapping, Sequence, Set, Tuple
+from typing import Any, Dict, Iterator, List, Mapping, Sequence, Set
 
 import nagios_commands
 import nagios_periods
-from nagios_groups import split_list
-from nagios_values import Definition, LeftOut, Members
+from nagios_values import Definition, LeftOut, Members, checked_objects, split_list
 
 # Nagios's defaults for options that nagios.cfg doesn't set.
 DEFAULTS = {
@@ -45,15 +44,6 @@ class CannotWrite(Exception):
 
 def option(options: Options, name: str) -> str:
     return options.get(name, DEFAULTS[name])
-
-
-def full_name(kind: str, members: Members) -> str:
-    return f"{members['host_name']};{members['service_description']}" if kind == "service" else str(members["host_name"])
-
-
-def checked_objects(objects: Sequence[Definition]) -> List[Tuple[str, str, Members]]:
-    """Each host and service: its full name, its kind and its members."""
-    return [(full_name(kind, members), kind, members) for kind, _, members in objects if kind in ("host", "service")]
 
 
 def periods_of(objects: Sequence[Definition], left_out: LeftOut) -> Dict[str, Any]:
@@ -220,7 +210,7 @@ def write_site(folder: pathlib.Path, setups: Sequence[Any], files: Mapping[str, 
     with lock_site(folder) as file:
         for name, path in paths.items():
             os.replace(new[name], path)
-        for path in [*folder.glob("part-*.json"), folder / "setup.json", folder / "mirrors.json"]:
+        for path in [*folder.glob("part-*.json"), folder / "setup.json", folder / "mirrors.json", folder / "remarks.json"]:
             if path.stem not in documents:
                 path.unlink(missing_ok=True)
         os.fsync(file)

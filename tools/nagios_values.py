@@ -6,7 +6,7 @@ import functools
 import math
 import pathlib
 import sys
-from typing import Any, Callable, Collection, Counter, Dict, Iterator, List, NoReturn, Optional, Set, Tuple, Union
+from typing import Any, Callable, Collection, Counter, Dict, Iterator, List, NoReturn, Optional, Sequence, Set, Tuple, Union
 
 import nagios_parts
 
@@ -153,6 +153,22 @@ def required(members: Members, name: str, place: str) -> Value:
     if name not in members:
         raise CannotConvert(f"{place}: the definition has no {name}")
     return members[name]
+
+
+def split_list(text: str) -> List[str]:
+    """The names of a list with commas."""
+    return [name.strip() for name in text.split(",") if name.strip()]
+
+
+def full_name(members: Members, before: str = "") -> str:
+    """The full name of a host or a service; with `dependent_` before its members, that of a dependent."""
+    host, description = members[f"{before}host_name"], members.get(f"{before}service_description")
+    return str(host) if description is None else f"{host};{description}"
+
+
+def checked_objects(objects: Sequence[Definition]) -> List[Tuple[str, str, Members]]:
+    """Each host and service: its full name, its kind and its members."""
+    return [(full_name(members), kind, members) for kind, _, members in objects if kind in ("host", "service")]
 
 
 exactly = functools.lru_cache(maxsize=1_024)(fractions.Fraction)

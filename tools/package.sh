@@ -114,6 +114,6 @@ if [ "${#shared[@]}" -gt 0 ]; then
         lib/python3/dist-packages/nagsched
 fi
 package nagsched-monitor amd64 net "python3 (>= 3.9), nagsched (= $version), systemd | systemd-standalone-sysusers" "monitor of a site's hosts and services" \
-    bin/nagsched-monitor bin/nagsched-runner bin/nagsched-gearman-worker bin/nagsched-from-nagios bin/nagsched-second-opinion lib/nagsched lib/systemd lib/sysusers.d share/man/man1/nagsched-monitor.1 share/man/man1/nagsched-from-nagios.1 \
+    bin/nagsched-monitor bin/nagsched-runner bin/nagsched-gearman-worker bin/nagsched-from-nagios bin/nagsched-second-opinion lib/nagsched lib/systemd lib/sysusers.d share/man/man1/nagsched-monitor.1 share/man/man1/nagsched-from-nagios.1 share/man/man1/nagsched-second-opinion.1 \
     share/bash-completion/completions/nagsched-monitor share/doc/nagsched/{monitor,tutorial,alerting,scaling,from-nagios,before-you-switch,second-opinion}.md
 package nagsched amd64 net "libc6 (>= $glibc)" "scheduler of active checks, the program" bin/nagsched share

@@ -10,7 +10,7 @@ _nagsched() {
 }
 _nagsched_monitor() {
     local word=${COMP_WORDS[COMP_CWORD]}
-    mapfile -t COMPREPLY < <(compgen -W "test status reschedule enable disable default result reload save notify-test drop-calls stop --program --alertmanager --on-change --page --page-url --page-name --textfile --nagios-files --version --help" -- "$word"
+    mapfile -t COMPREPLY < <(compgen -W "test status reschedule enable disable default ack downtime comment remarks result reload save new-database notify-test drop-calls stop --program --alertmanager --on-change --page --page-url --page-name --textfile --nagios-files --livestatus --perfdata --version --help" -- "$word"
         compgen -d -- "$word")
 }
 complete -F _nagsched nagsched
