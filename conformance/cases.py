@@ -36,6 +36,16 @@ def cases() -> Iterator[Case]:
         yield Case(file, arguments.read_text(encoding="utf-8").splitlines() if arguments.exists() else [], int(status))
 
 
+def wrong_rules() -> list[tuple[str, str]]:
+    """Rules that are wrong in definition and code alike, each with a case that detects it."""
+    rows = [line.split("\t") for line in (FOLDER / "WRONG_RULES.tsv").read_text(encoding="utf-8").splitlines()]
+    names = {case.name for case in cases()}
+    for rule, name in rows:
+        if name not in names:
+            raise LookupError(f"WRONG_RULES.tsv: there is no case {name}: name another that detects: {rule}")
+    return [(rule, name) for rule, name in rows]
+
+
 def runs() -> Iterator[Case]:
     """The cases that `run` accepts, except its help. Their arguments begin with `run`."""
     for case in cases():

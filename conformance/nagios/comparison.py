@@ -86,20 +86,16 @@ class Comparison:
     def compare(self, answer: str, here: object, there: object, *steps: tuple[str, object]) -> bool:
         """Counts an answer. The steps lead from ours to Nagios's, each with the row that makes it. Returns whether the two are equal."""
         self.counts.compared[answer] += 1
-        rows, last = set(), here
-        for row, value in steps:
-            if value != last:
-                rows.add(row)
-            last = value
-        if last != there:
-            raise Failure(answer, f"{self.place}: {answer}: {here} here, {there} in Nagios; no row explains it (rows lead to {last})")
+        named = rows.explain(here, there, steps)
+        if named is None:
+            raise Failure(answer, f"{self.place}: {answer}: {here} here, {there} in Nagios; no row explains it (rows lead to {[here, *steps][-1]})")
         if here == there:
             return True
-        if not rows <= self.known:
-            raise Failure(answer, f"{self.place}: {answer}: {here} here, {there} in Nagios; the page has no row {sorted(rows - self.known)}")
+        if not named <= self.known:
+            raise Failure(answer, f"{self.place}: {answer}: {here} here, {there} in Nagios; the page has no row {sorted(named - self.known)}")
         self.counts.different[answer] += 1
-        self.counts.rows.update((row, answer) for row in rows)
-        self.differences.append(Difference(answer, frozenset(rows), here, there))
+        self.counts.rows.update((row, answer) for row in named)
+        self.differences.append(Difference(answer, frozenset(named), here, there))
         return False
 
     # ---- nagsched's calls
@@ -410,7 +406,8 @@ class Comparison:
         before, before_here, waiting = o.there, o.here, o.event
         what_before = before.state, host.there.state if host.checked else "never checked"
         state, host_down = self.rules.state_of(o, code), self.rules.host_down(o)
-        result = self.nagios.result(o, state, begun, now)
+        handled = rows.handle(self.nagios, o, state, begun, now)
+        result = handled.result
         self.expect("the standing", o.there, there)
         self.expect("the percent", f"{model.percent(o.flaps.all.changes):.9f}", words[11])
         self.expect("the host's percent and flag", (f"{model.percent(host.flaps.all.changes):.9f}", host.flaps.flags[5]), (words[16], words[15] == "1"))
@@ -418,17 +415,13 @@ class Comparison:
         changed = self.rules.changed(before_here.state, state)
         flag = self.rules.flag(o)
         ours = self.report(o, code, begun, self.rules.verdict(before_here, state, o.most, host_down), changed, flag)
-        by_table = self.rules.verdict(before, state, o.most, host_down)
-        row = rows.standing_row(o, before, by_table, host_down)
-        # The standing by our table after Nagios's standing: it differs from ours if the two were different before.
-        other = [("after a problem while the host was down", by_table)] if before_here != before else []
-        equal = [self.compare("standing", o.here, there, *other, (row, o.there)),
+        equal = [self.compare("standing", o.here, there, *rows.standing_steps(o, handled, before_here != before, o.there)),
                  self.compare("changed", changed, names[int(words[9])] != there.state),
                  self.compare("flapping", flag, words[10] == "1", *rows.flag_steps(o))]
-        self.logged(o, words[14], names, result, by_table, other, row)
+        self.logged(o, words[14], names, handled, before_here != before)
         due = self.nagios_next(o, result, now)
         self.expect("the waiting check", due, (seconds(words[12]), words[13] == "1"))
-        steps = list(rows.next_steps(self.rules, o, result, begun, now, by_table, row))
+        steps = list(rows.next_steps(self.rules, o, handled, begun, now))
         if waiting is not None:
             steps = [("checks on demand" if waiting.on_demand else "reschedule", due[0])]
         equal.append(self.compare("next check", ours, due[0], *steps))
@@ -454,17 +447,16 @@ class Comparison:
         self.call(f"last hard {after.last_hard} {o.number}", '["save"]')
         return o.next
 
-    def logged(self, o: Object, told: str, names: tuple[str, ...], result: model.Result, by_table: Standing,
-               other: list[tuple[str, Standing]], row: str) -> None:
+    def logged(self, o: Object, told: str, names: tuple[str, ...], handled: rows.Handled, were_apart: bool) -> None:
         """The log, which doesn't always show the standing that Nagios stores."""
-        logged = result.logged
+        logged = handled.result.logged
         if logged is None:
             self.expect("the log", "-", told)
             return
         state, kind, attempt = map(int, told.split(","))
         self.expect("the log", logged[:3], (names[state], KINDS[kind], attempt))
-        self.compare("log", o.here[:3], logged[:3], *[(name, standing[:3]) for name, standing in other],
-                     (rows.log_row(o, row, by_table, logged), logged[:3]))
+        steps = rows.standing_steps(o, handled, were_apart, logged)
+        self.compare("log", o.here[:3], logged[:3], *((row, standing[:3]) for row, standing in steps))
 
     def nagios_next(self, o: Object, result: model.Result, now: int) -> tuple[Moment, bool]:
         """The check that waits in Nagios's queue after the result, and whether it is forced."""
