@@ -12,6 +12,7 @@ import tempfile
 
 TOP = pathlib.Path(__file__).resolve().parent.parent
 sys.path.append(str(TOP / "monitor"))
+from tests.packages_opinion import opinion_lines  # noqa: E402
 from tests.packages_trial import all_lines  # noqa: E402
 
 SCRIPT = r"(?:(?:tools|bench|tests|\.ci|examples)/\w+\.(?:py|sh)|conformance/check|conformance/nagios/(?:build|judge|teeth)\.(?:py|sh)|monitor/nagsched-(?:monitor|gearman-worker)|monitor/build_runner\.sh)"
@@ -22,7 +23,8 @@ SYNOPSIS = re.compile(r"nagsched(?: [\w.]+)?|.* \[.*|.* DIRECTORY|.* SETUP .*|na
 
 # The commands that are run here, in a folder with these files: the file that each writes ("" for standard output), and how its output begins.
 FILES = {"setup.json": "setup", "my.setup.json": "setup", "input": "office.txt", "INPUT": "office.txt", "OUTPUT": "office.out"}
-OFFICE, PICTURE, SEQUENCE = ((TOP / file).read_text(encoding="utf-8") for file in ("examples/office.out", "docs/office.svg", "docs/sequence.svg"))
+OFFICE, PICTURE, SEQUENCE, LANES, OVERVIEW = ((TOP / file).read_text(encoding="utf-8") for file in (
+    "examples/office.out", "docs/office.svg", "docs/sequence.svg", "docs/lanes.svg", "docs/parts.svg"))
 SETUP = (TOP / "examples/office.txt").read_text(encoding="utf-8").split("\n", 1)[0]
 LINE_OF_SETUP = json.dumps(json.loads(SETUP), sort_keys=True, separators=(",", ":"), ensure_ascii=False) + "\n"
 VERSION = (TOP / "VERSION").read_text(encoding="utf-8").strip()
@@ -40,6 +42,8 @@ RUN = {
     "tools/timeline.py INPUT OUTPUT > picture.svg": ("picture.svg", PICTURE[: PICTURE.index("office.txt")]),
     "tools/timeline.py examples/office.txt examples/office.out > docs/office.svg": ("docs/office.svg", PICTURE),
     "tools/timeline.py examples/sequence.txt examples/sequence.out --objects 'web;http' > docs/sequence.svg": ("docs/sequence.svg", SEQUENCE),
+    "tools/lanes.py > docs/lanes.svg": ("docs/lanes.svg", LANES),
+    "tools/overview.py > docs/parts.svg": ("docs/parts.svg", OVERVIEW),
 }
 # The part of the gate that runs a command.
 IN_THE_GATE = {
@@ -70,6 +74,7 @@ SCRIPTS = {
     "tools/second_opinion.py": ".ci/second_opinion.py",
     "examples/monitor.py": ".ci/monitor.py",
     "examples/mail_change.py": ".ci/monitor.py",
+    "examples/spool_to_graphite.py": ".ci/monitor.py",
     "examples/embed.py": ".ci/c_library.py",
     "examples/first.py": ".ci/c_library.py",
     "examples/loop.py": ".ci/c_library.py",
@@ -77,8 +82,8 @@ SCRIPTS = {
 # The names of scripts when they are installed.
 INSTALLED = {"nagsched-monitor": "monitor/nagsched-monitor", "nagsched-from-nagios": "tools/from_nagios.py", "nagsched-second-opinion": "tools/second_opinion.py"}
 WITH_HELP = {"monitor/nagsched-monitor", "monitor/nagsched-gearman-worker", "tools/from_nagios.py", "tools/timeline.py", "tools/second_opinion.py"}
-# The commands of the trial, which monitor/tests/packages.sh runs on a machine with Nagios, one after another.
-TRIAL = frozenset(all_lines())
+# The commands of the trials, which monitor/tests/packages.sh runs on a machine with Nagios, one after another.
+TRIAL = frozenset([*all_lines(), *opinion_lines()])
 # Why the gate doesn't run a command.
 NAGIOS = "needs Nagios"
 MANUAL = {

@@ -4,7 +4,7 @@
     .ci/gate.py
 
 The last line adds up the counts, and the status is 0 only if nothing failed. The progress names each crate. Only a program that `rt ci` has proved is
-recorded as proved. A part that ends without counts is a failure.
+recorded as proved. A part that ends without counts is a failure. The script also tests what .ci/edits.py makes of the prover's output.
 """
 import os
 import pathlib
@@ -14,6 +14,10 @@ import subprocess
 import sys
 import tempfile
 from typing import Iterator, Tuple
+
+import clauses
+import goals
+import tried
 
 TOP = pathlib.Path(__file__).resolve().parent.parent
 LIMIT = 120
@@ -30,6 +34,19 @@ done
 """
 PROVED = KIT.replace("{program}", "mkdir -p crates/nagsched/out; cp /bin/true crates/nagsched/out/nagsched; echo 'rt: nagsched proved'").replace("{end}", "echo '40 passed, 0 failed'")
 NOT_PROVED = KIT.replace("{program}", "echo 'rt: nagsched NOT PROVED'").replace("{end}", "echo '39 passed, 1 failed'; exit 1")
+# The prover's output for a function with a wrong body: one clause is false, and the proof of another names something that is gone.
+TOLD = """./proofs/queue/put/Answers.antt:10:6: error: `returns-clause-kept`: record
+  `Rattle.check_queue.After-push` has no
+  field `push_back` (nearest: .push_front)
+note: src/queue.rt:9:1: it is not proved that what the function ensures holds when it returns (`returns-then-a-clause-least`); the facts known there allow values at which this goal is false
+help: a bound may be missing
+fn check_queue::queue::put: not proved
+note: `returns-then-a-clause-least` of proofs/queue/put/Answers.antt may be false: the known facts allow `c.args.n` = `0`, `c.len` = `1`, and 2 more: help: a fact may be missing
+"""
+# The same without values, as after an edit that only moved a name of the proof; and an open goal of a loop.
+MOVED = TOLD.replace("the facts known there allow values at which this goal is false", "`search` gave up at one of its limits").replace("may be false", "is open")
+LOOP = "note: src/queue.rt:9:1: it is not proved that the invariant of the loop holds (`loop-i-preserved`)\nfn check_queue::queue::put: no proof: see above\n"
+PROOF = "pub returns-clause-kept : goal.returns-clause-kept\nreturns-clause-kept c = c.push_back.ensures\n"
 # What is compared, what came, and what was wanted.
 Row = Tuple[str, object, object]
 
@@ -92,10 +109,39 @@ def rows(work: pathlib.Path) -> Iterator[Row]:
     yield "proofs that fail", (status, output.splitlines()[-1], record_of(bad)), (1, f"{39 + count} passed, 1 failed", "")
 
 
+def is_refused(line: str, told: str) -> object:
+    """Whether this output shows that an edit with this line is refused, and the words about it. None if the line has another form."""
+    clause = clauses.read_clause(f"{line}\nfile: src/queue.rt\n")
+    return clause and clauses.judged(clause, goals.open_goals("check_queue", "queue::put", told, PROOF))
+
+
+def rows_of_edits(work: pathlib.Path) -> Iterator[Row]:
+    """What .ci/edits.py makes of the prover's output, and of a file TRIED."""
+    least = "returns-then-a-clause-least"
+    yield "an edit of the clause that it names", is_refused("clause: least", TOLD), (True, f"{least}: false at c.args.n = 0, c.len = 1")
+    yield "an edit of another clause", is_refused("clause: within", TOLD), (False, f"it leaves other goals open than one of its clause: {least}, returns-clause-kept")
+    taken, moved, loop = (is_refused(f"clause: {name}", told) for name, told in [("kept", TOLD), ("least", MOVED), ("least", LOOP)])
+    yield "an edit that took a name away", "(False, 'a proof only names what the edit took away" in str(taken), True
+    yield "an edit that moved a name", "(False, 'names of the proof moved" in str(moved), True
+    yield "the same, read by somebody", is_refused("clause: least\nread: n is 0", MOVED), (True, f"{least}: read: n is 0")
+    yield "a name taken away, read by somebody", is_refused("clause: kept\nread: n is 0", TOLD), taken
+    yield "a loop's invariant", loop, (False, "it leaves other goals open than one of its clause: loop-i-preserved")
+    yield "a loop that the edit names", is_refused("clause: loop least", LOOP), (True, "loop-i-preserved: not proved")
+    yield "a function that is proved", is_refused("clause: least", "fn check_queue::queue::put: proved\n"), (False, "no goal is left open")
+    yield "a line in another form", [is_refused(line, TOLD) for line in ("clauses: least", "clause: loop", "clause: least of all numbers")], [None, None, None]
+    file = work / "TRIED"
+    yield "no TRIED", tried.read_tried(file), None
+    file.write_text(tried.Tried("kit-1 logic cafe", "f00d", {"edits/one": "queue::put, returns: false at n = 0"}).text(), encoding="utf-8")
+    known = tried.read_tried(file)
+    yield "TRIED", known, tried.Tried("kit-1 logic cafe", "f00d", {"edits/one": "queue::put, returns: false at n = 0"})
+    fits = [("kit-1 logic cafe", "f00d"), ("kit-2 logic cafe", "f00d"), ("kit-1 logic cafe", "beef"), ("kit-1 logic face", "f00d")]
+    yield "a TRIED of another kit, of other sources, or of another logic", known and [known.fits(*it) for it in fits], [True, True, False, False]
+
+
 def main() -> int:
     passed, wrong = 0, 0
     with tempfile.TemporaryDirectory() as folder:
-        for what, came, wanted in rows(pathlib.Path(folder)):
+        for what, came, wanted in [*rows(pathlib.Path(folder)), *rows_of_edits(pathlib.Path(folder))]:
             if came == wanted:
                 passed += 1
             else:

@@ -3,8 +3,8 @@
 
     .ci/generated.py
 
-Tables of members come from docs/setup.schema.json, which `nagsched schema` writes. Counts of cases come from conformance/STATUS.tsv, measured figures from
-bench/results/ (.ci/figures.py), and promises with their clauses from .ci/promises.py. The gate compares the pages with the output of this script.
+Tables of members come from docs/setup.schema.json, which `nagsched schema` writes. Counts of cases come from conformance/STATUS.tsv, counts of edits from their
+folders, measured figures from bench/results/ (.ci/figures.py), and promises with their clauses from .ci/promises.py. The gate compares the pages with the output of this script.
 """
 import collections
 import json
@@ -16,7 +16,7 @@ import promises
 from anchors import GENERATED, PAGES, TOP, text_of
 
 sys.path.append(str(TOP / "conformance"))
-from cases import FOLDER, cases
+from cases import FOLDER, cases, wrong_rules
 
 SCHEMA = json.loads((TOP / "docs/setup.schema.json").read_text(encoding="utf-8"))
 # The part of the schema that each table of members describes.
@@ -69,6 +69,10 @@ def generated_text(name: str) -> str:
         return member_table(of)
     if kind == "cases":
         return f"{case_counts()[of] if of else sum(case_counts().values()):,}"
+    if name == "wrong rules":
+        return str(len(wrong_rules()))
+    if kind == "edits":
+        return str(sum(1 for _ in TOP.glob(f"crates/*/{of or '*'}/*.edit")))
     if kind == "promises":
         return promises.listed(of)
     if kind in figures.KINDS:

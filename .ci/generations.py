@@ -5,9 +5,9 @@
 
 The loop runs for four days, and takes over another setup on the way. Each generation is resumed from the state that was saved before it. `nagsched run`
 answers it in the same way, and leaves the state that was saved after it. Each check ends as it has to. It is reported, or abandoned after five minutes.
-If its plugin couldn't be started, or another setup was taken over, it is abandoned at once. No sleep goes past the time of the next check.
+If its plugin couldn't be started, or another setup was taken over, it is abandoned at once. Each moment is that of the simulated clock.
 """
-import itertools
+import dataclasses
 import json
 import pathlib
 import re
@@ -17,12 +17,14 @@ import sys
 from program import SECONDS, TOP, Harness, input_lines
 
 ROOM = pathlib.Path(sys.argv[2] if len(sys.argv) > 2 else TOP / "crates/nagsched_loop/out/nagsched_loop").resolve()
-DAYS, DAY = 4, 86_400_000
+DAYS, DAY, HOUR = 4, 86_400_000, 3_600_000
 ENTRY = re.compile(r"(\[.*\])\t0 (.*)")
 # In milliseconds: how long a plugin may run, and how long the loop sleeps at the limit of checks and when none is due.
 PLUGIN_LIMIT, AT_LIMIT, WITHOUT_WORK = 300_000, 1_000, 3_600_000
 # A check whose number can be divided by the first can't be started. If the number of another check can be divided by the second, its plugin hangs.
 NOT_STARTED, HANGS = 31, 17
+# How long the fastest machine takes to answer.
+ANSWER = 5_500
 
 # A command and its reply; a setup, the state that was saved, and the entries of the generation before it.
 Entry = tuple[str, str]
@@ -91,17 +93,78 @@ def check_ends(harness: Harness, entries: list[Entry], change: int) -> None:
     harness.compare("checks that are out at the end", [], [run for run, start in taken.items() if start + PLUGIN_LIMIT < DAYS * DAY])
 
 
-def check_sleeps(harness: Harness, entries: list[Entry]) -> None:
-    """After each take that found nothing, the next take comes no later than necessary."""
-    takes = [(json.loads(command)[1], reply) for command, reply in entries if command.startswith('["take"')]
-    late = []
-    for (now, reply), (then, _) in itertools.pairwise(takes):
-        until = now + AT_LIMIT if reply == "atlimit" else now
-        if reply.startswith("idle "):
-            until = now + WITHOUT_WORK if reply == "idle none" else int(reply.split(" ")[1])
-        if then > until:
-            late.append((now, reply, then))
-    harness.compare("takes that come too late", [], late)
+def noon_after(moment: int) -> int:
+    """The noon of the day after this moment."""
+    return moment // DAY * DAY + DAY + 12 * HOUR
+
+
+@dataclasses.dataclass
+class Clock:
+    """The simulated clock. It advances only as the loop sleeps: until the next check, the limit of a run, or an event, whichever comes first."""
+
+    now: int = 0
+    noon: int = noon_after(0)
+    change: int = DAYS * DAY // 2
+    # When the plugin of an object reports, and when each run is past its limit.
+    reports: dict[str, int] = dataclasses.field(default_factory=dict)
+    limits: dict[int, int] = dataclasses.field(default_factory=dict)
+
+    def change_setup(self) -> None:
+        """After the change of the setup no report comes in, and each run is past its limit."""
+        self.change = DAYS * DAY
+        self.reports, self.limits = {}, dict.fromkeys(self.limits, self.now)
+
+    def is_right(self, command: str) -> bool:
+        """Whether a call comes at this moment, and has it."""
+        word, *members = json.loads(command)
+        if word == "take":
+            return members == [self.now]
+        if word == "reschedule":
+            due, self.noon = self.noon, noon_after(self.noon)
+            return due <= self.now and members[1] == due + HOUR
+        limit = self.limits.pop(members[1])
+        if word == "abandon":
+            return limit <= self.now == members[2]
+        return self.reports.pop(members[0]) <= self.now
+
+    def reply(self, reply: str, numbers: dict[str, int]) -> None:
+        """The reply to a take: a plugin is started, or the loop sleeps."""
+        word, _, rest = reply.partition(" ")
+        if word == "taken":
+            number, _, name = rest.partition(" ")
+            run = int(number)
+            self.limits[run] = self.now if run % NOT_STARTED == 0 else self.now + PLUGIN_LIMIT
+            if run % NOT_STARTED and run % HANGS:
+                self.reports[name] = self.now + (1 + numbers[name] % 4) * ANSWER
+        elif word != "putoff":
+            until = self.now + AT_LIMIT if word == "atlimit" else self.now + WITHOUT_WORK if rest == "none" else int(rest)
+            self.now = max(self.now, min(until, *self.limits.values(), self.noon, self.change, DAYS * DAY, *self.reports.values()))
+
+
+def numbers_of(setup: str) -> dict[str, int]:
+    """The number of each object: hosts by name, then services by host and description."""
+    document = json.loads(setup)
+    services = sorted((it["host"], it["description"]) for it in document["services"])
+    names = [*sorted(it["name"] for it in document["hosts"]), *(";".join(service) for service in services)]
+    return {name: number for number, name in enumerate(names)}
+
+
+def check_moments(harness: Harness, generations: list[Generation]) -> None:
+    """Each call comes at its moment of the clock, and some moments are no whole seconds."""
+    clock, wrong, moments, before = Clock(), list[tuple[str, int]](), set[int](), generations[0][0]
+    for setup, _, entries in generations:
+        if setup != before:
+            clock.change_setup()
+        before, numbers = setup, numbers_of(setup)
+        for command, reply in entries:
+            moments.add(clock.now)
+            if not clock.is_right(command):
+                wrong.append((command, clock.now))
+            if command.startswith('["take"'):
+                clock.reply(reply, numbers)
+    harness.compare("calls at another moment", [], wrong)
+    harness.compare("the last moment", DAYS * DAY, clock.now)
+    harness.compare("moments of half a second", True, sum(1 for moment in moments if moment % 1_000) > 50)
 
 
 def check_months(harness: Harness) -> None:
@@ -113,7 +176,7 @@ def check_months(harness: Harness) -> None:
     check_replay(harness, generations)
     entries = [entry for _, _, generation in generations for entry in generation]
     check_ends(harness, entries, DAYS * DAY // 2)
-    check_sleeps(harness, entries)
+    check_moments(harness, generations)
 
 
 def check_faults(harness: Harness) -> None:

@@ -63,7 +63,8 @@ def check_installed(program, prefix, work):
     yield "from Nagios", command_output(prefix / "bin/nagsched-from-nagios", "--help")[1], 0
     told, status = command_output(prefix / "bin/nagsched-second-opinion", "--lines", "/var/log/nagios4/results")
     yield "the second opinion", (status, "host_perfdata_file=/var/log/nagios4/results\n" in told), (0, True)
-    yield "the manual pages", [name for name in sorted(manual) if not name.endswith(".3")], ["nagsched-from-nagios.1", "nagsched-monitor.1", "nagsched.1", "nagsched.5"]
+    yield "the manual pages", [name for name in sorted(manual) if not name.endswith(".3")], [
+        "nagsched-from-nagios.1", "nagsched-monitor.1", "nagsched-second-opinion.1", "nagsched.1", "nagsched.5"]
     functions = re.findall(r"\b(nagsched_\w+)\(", re.sub(r"/\*.*?\*/", "", (TOP / "include/nagsched.h").read_text(), flags=re.DOTALL))
     wanted = sorted(f"{name}.3" for name in {"nagsched", *functions}) if (prefix / "include/nagsched.h").is_file() else []
     yield "the manual pages of section 3", sorted(name for name in manual if name.endswith(".3")), wanted
@@ -72,6 +73,9 @@ def check_installed(program, prefix, work):
         yield f"lines of {name}, at most 400", len(page.read_text().splitlines()) <= 400, True
     page = manual["nagsched.1"].read_text().replace("\\-", "-")
     yield "words of the help that nagsched.1 lacks", [word for word in help_words(program) if not re.search(rf"{word}\b", page)], []
+    page = manual["nagsched-second-opinion.1"].read_text().replace("\\-", "-")
+    words = re.findall(r"^  .*?(--[a-z]+)", command_output(prefix / "bin/nagsched-second-opinion", "--help")[0], re.MULTILINE)
+    yield "options of the help that nagsched-second-opinion.1 lacks", (len(words) > 5, [word for word in words if word not in page]), (True, [])
     first_page = (prefix / "share/doc/nagsched/README.md").read_text()
     yield "the installed first page", ("nagsched < examples/office.txt" in first_page, bool(re.search(r"\brt\b|<!--", first_page))), (True, False)
     yield "the completion for bash", command_output("bash", "-n", prefix / "share/bash-completion/completions/nagsched"), ("", 0)

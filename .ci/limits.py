@@ -210,6 +210,9 @@ def little_stack(harness):
     text, status = harness.run([], document + calls + input_lines('["save"]'), **how)
     shown, _, state = text.partition(b"saved ")
     harness.compare("little stack, save", (replies, 0), (shown, status))
+    text, status = harness.run([], document + input_lines('["list"]'), **how)
+    lines = text.decode().splitlines()
+    harness.compare("little stack, list", ("listed 4096", 4_097, 0), (lines[0], len(lines), status))
     for command in ("run", "live"):
         came = harness.run([command, "--resume"], document + state + input_lines('["reschedule","h;a-master",0,false]'), **how)
         harness.compare(f"little stack, {command} --resume", (input_lines("done h;a-master"), 0), came)
@@ -220,6 +223,13 @@ def little_stack(harness):
     for depth, line in {127: "L2 Shape hosts 0", 5_000: "L1 NotJson"}.items():
         nested = input_lines('{"hosts":' + "[" * (depth - 1) + "]" * (depth - 1) + "}")
         harness.compare(f"a document of depth {depth}", (input_lines(f"refused {line}"), 1), harness.run([], nested, **with_stack(DEEP_STACK)))
+
+
+def many_workers(harness):
+    """The most workers, each taking 200 times at the time at which one host is due: every call is made once. The host is taken and reported once."""
+    calls = input_lines(setup(hosts=[host("a")]), *['["moment",0]'] * 200)
+    text, status = harness.run(["drill", "--workers", "64"], calls)
+    harness.compare("64 workers", (["total 12801 0"], 0), (text.decode().splitlines()[-1:], status))
 
 
 def many_ways(harness):
@@ -342,6 +352,6 @@ def saved_states(harness):
 
 harness = Harness("limits")
 LISTS = (many_objects, all_fail, long_names, many_parents, too_many, explained_at_limits, most_dependencies, long_chain, many_ways, wide_layers, long_cycles, last_of_many)
-for part in (*LISTS, little_stack, many_calls, places, long_inputs, saved_states):
+for part in (*LISTS, little_stack, many_workers, many_calls, places, long_inputs, saved_states):
     part(harness)
 harness.end()

@@ -63,8 +63,8 @@ def mypy_report():
         return ""
     checks = [
         (["nagsched_monitor", "tests"], TOP / "monitor", ""),
-        (["from_nagios.py", "unproved.py", "manual_c.py"], TOP / "tools", ""),
-        ([".ci/needs.py", ".ci/missing.py", ".ci/gate.py", ".ci/pairs.py", "bindings/python/backend.py"], TOP, ""),
+        (["from_nagios.py", "unproved.py", "manual.py", "lanes.py", "overview.py"], TOP / "tools", ""),
+        ([*(f".ci/{name}.py" for name in ("needs", "missing", "gate", "goals", "clauses", "tried", "pairs")), "bindings/python/backend.py"], TOP, ""),
         (["bindings/python/nagsched", "examples/loop.py"], TOP, "bindings/python"),
         (["second_opinion.py"], TOP / "tools", f"{TOP / 'conformance/nagios'}:{TOP / 'monitor'}"),
     ]

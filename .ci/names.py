@@ -23,7 +23,8 @@ OF_OTHERS = {"Backoff::snooze", "Shared::exchange", "std::sync::atomic::raw", "t
              "use_retained_scheduling_info", "retention.dat", "group_wait", "group_interval", "repeat_interval", "mute_time_intervals", "send_resolved",
              "notification_interval", "notification_period", "first_notification_delay", "contact_groups", "active_time_intervals"}
 # The files of a site, which are in its folder.
-OF_A_SITE = {"/status.json", "setup.json", "commands.json", "periods.json", "passive.json", "monitor.json", "mirrors.json", "groups.json", "inventory.json", "runners.json", "my.setup.json", "part-1.json", "part-2.json"}
+OF_A_SITE = {"/status.json", "setup.json", "commands.json", "periods.json", "passive.json", "monitor.json", "mirrors.json", "groups.json", "inventory.json",
+             "directory.json", "remarks.json", "runners.json", "my.setup.json", "part-1.json", "part-2.json"}
 
 
 def files():

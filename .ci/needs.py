@@ -46,6 +46,7 @@ PROGRAMS = {
     "ssh": Program("openssh-client", "", "plugins over SSH"),
     "ssh-keygen": Program("openssh-client", "", "plugins over SSH"),
     "promtool": Program("prometheus", "", "the rules and figures for Prometheus"),
+    "carbon-cache": Program("graphite-carbon", "", "Graphite, which gets performance data"),
     "amtool": Program("prometheus-alertmanager", "", "the settings for Alertmanager"),
     "pip": Program("python3-pip", "", "the installation of the Python package by pip"),
     "valgrind": Program("valgrind", "", "tests/memcheck.sh (not a part of the gate)"),
@@ -94,12 +95,17 @@ def kit_version() -> Optional[str]:
         return None
 
 
+def logic_of(kit: str) -> str:
+    """The checksum of a kit's logic, which decides what a proof shows. Kits with different names can have the same."""
+    return kit.partition(" logic ")[2]
+
+
 def kit_fault() -> str:
     """What is wrong with the kit, or nothing."""
     kit, wanted = kit_version(), wanted_kit()
     if kit is None:
         return f"the kit {wanted}: its command rt isn't on the path"
-    return "" if kit == wanted else f"the kit {wanted}: rt on the path is {kit or 'of no kit'}"
+    return "" if logic_of(kit) == logic_of(wanted) != "" else f"the kit {wanted}, or another with this logic: rt on the path is {kit or 'of no kit'}"
 
 
 def python_fault() -> str:

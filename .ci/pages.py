@@ -172,9 +172,9 @@ def main():
     compare_code()
     kit = needs.kit_version()
     if kit is None:
-        print("pages: passed over the kit's version on README: rt isn't on the path")
+        print("pages: passed over the kit on README: rt isn't on the path")
     else:
-        compare("the kit's version on README", kit, needs.wanted_kit())
+        compare("the logic of the kit on README", needs.logic_of(kit), needs.logic_of(needs.wanted_kit()))
     compare("the form of the pages", [], list(style.all_faults()))
     compare("figures that no file has", [], list(figures.typed_figures()))
     compare("files of results that don't say how they were measured", [], list(figures.files_without_source()))

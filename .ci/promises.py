@@ -45,6 +45,8 @@ PROMISES = (
             ("check_desk laws::headline first_come bypass fair",), ("check_desk Desk::close schedule",), LIBRARY, ("lock",)),
     Promise("An enabled object whose intervals aren't 0 always has a next check, or is being checked",
             ("check_sched laws::never_forgotten opened kept told",), ("check_sched Sched::apply state",), ALL, ("scheduler",)),
+    Promise("Each other object is chosen at most once before a due one, unless a call lets it in",
+            ("check_sched laws::passed_over_once once turn chooses",), ("check_sched Sched::apply state reply",), ALL, ("scheduler",)),
     Promise("Out of memory loses nothing that was recorded, with one exception: `crew`",
             (), ("check_book Book::record refused full", "check_workers crew errors"), LIBRARY, ("tested",)),
     Promise("A glance reads a standing of the one history, and never an older one than before",

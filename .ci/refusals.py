@@ -44,7 +44,7 @@ def check_runs(harness):
 
 
 def resume_runs(harness):
-    """A run that saves; and a run, a conversation and a check from its state over a setup with one object less and another maximum of attempts."""
+    """A run that saves. Then a run, a conversation and a check from its state, over a setup with one object less and another maximum of attempts."""
     office = (EXAMPLES / "office.txt").read_bytes()
     saving = office + b'["save"]\n'
     saved = harness.run([], saving)[0]
@@ -53,7 +53,7 @@ def resume_runs(harness):
     setup = json.loads(office.splitlines()[0])
     setup["services"].pop()
     setup["hosts"][0]["max_check_attempts"] += 1
-    given = input_lines(json.dumps(setup), state.decode(), '["take",9000000]', '["save"]')
+    given = input_lines(json.dumps(setup), state.decode(), '["take",9000000]', '["list"]', '["save"]')
     for word in ("run", "live", "check"):
         arguments = [word, "--resume"]
         yield f"{word}, from a saved state", arguments, given, harness.run(arguments, given)[0]

@@ -44,7 +44,7 @@ class Folder:
         return subprocess.run(self.command("--all", *words), capture_output=True, text=True, timeout=LIMIT).stdout
 
     def follow(self) -> "subprocess.Popen[str]":
-        return subprocess.Popen(self.command("--follow", "--late", 30, "--for", LIMIT), stdout=subprocess.PIPE, text=True)
+        return subprocess.Popen(self.command("--follow", "--late", 30), stdout=subprocess.PIPE, text=True)
 
 
 def counts(report: str) -> dict[str, int]:
@@ -56,10 +56,12 @@ def harms(report: str, kind: str) -> set[tuple[str, str]]:
     return set(re.findall(rf"^ +\S+ \S+  {kind}: (.+?), until (\S+):", report, re.M))
 
 
-def line(name: str, at: int, standing: str, before: int, state: int, host: int = 0, took: float = 0.1, how: str = "stored") -> str:
-    """A result that is handled at this second."""
+def line(name: str, at: int, standing: str, before: int, state: int, host: int = 0, took: float = 0.1, how: str = "stored", started: int = 0,
+         change: int = 0) -> str:
+    """A result that is handled at this second, by a Nagios that was started at that one. The change is the last one of states."""
     kind, attempt = standing.split()
-    words = (how, name, START + at, START + at - int(took), "0.000", f"{took:.3f}", "ACTIVE", before, state, kind, attempt, "0.00", host if ";" in name else state)
+    times = how, name, START + at, START + at - int(took), "0.000", f"{took:.3f}"
+    words = *times, "ACTIVE", before, state, kind, attempt, "0.00", host if ";" in name else state, START + started, change, change
     return "\t".join(map(str, words)) + "\n"
 
 
@@ -81,7 +83,10 @@ def planted(text: str, seed: int) -> tuple[str, set[tuple[str, str]]]:
 
 
 def check_recorded(program: str, work: pathlib.Path):
-    """Eight minutes of a Nagios with 225 objects, outages, passive results, forced checks and a reload."""
+    """Eight minutes of a Nagios with 225 objects, outages, passive results, forced checks and a reload.
+
+    The last three fields of each line were added afterwards: when Nagios was started, as its log says, and no changes of states.
+    """
     folder = Folder(program, work / "recorded", gzip.decompress((RECORDED / "objects.cache.gz").read_bytes()).decode(), 1)
     (folder.path / "nagios.log").write_text(f"[{RELOAD - 1}] Caught SIGHUP, restarting...\n[{RELOAD}] Nagios 4.4.6 starting... (PID=1)\n")
     text = gzip.decompress((RECORDED / "results.gz").read_bytes()).decode()
@@ -92,7 +97,9 @@ def check_recorded(program: str, work: pathlib.Path):
     yield "a recorded problem that Nagios didn't tell", "h11;s011" in report and "Nagios WARNING SOFT 1, nagsched WARNING HARD 4" in report
     yield "rows of recorded results", all(found.get(row, 0) > 0 for row in ("soft recovery", "after a problem while the host was down", "passive result of a host"))
     picture = xml.dom.minidom.parseString(re.findall(r"<svg.*</svg>", page.read_text(), re.S)[0])
-    yield "the picture of the day", len(picture.getElementsByTagName("rect")) == 120 + sum(found[kind] for kind in (
+    moments = [int(line.split("\t")[2]) for line in text.splitlines()]
+    minutes = len({(moment - moments[0]) // 60 for moment in moments})
+    yield "the picture of the day", len(picture.getElementsByTagName("rect")) == minutes + sum(found[kind] for kind in (
         "unexplained", "told late", "told twice", "ran twice at once", "never ran", "overdue", "flapping unseen", "stood still"))
     wrong, where = planted(text, 1)
     yield "40 wrong verdicts", harms(folder.report(wrong, "--late", 20), "unexplained") == where
@@ -112,15 +119,28 @@ def check_written(program: str, work: pathlib.Path):
     yield "ran twice at once and overdue", (counts(told)["ran twice at once"], counts(told)["overdue"]) == (1, 1) and "begun 135 s late" in told
     told = folder.report("".join(line(name, at, "HARD 1", 0, 0) for at in (0, 50, 600) for name in ("h;s", "h;t", "h")))
     yield "stood still", (counts(told)["stood still"], counts(told)["overdue"]) == (1, 0) and "no result for 550 s, while 3 checks were due" in told
-    mixed = [line("h", 10, "SOFT 1", 0, 1, how="logged"), line("h;s", 10, "HARD 3", 0, 2, host=1, how="logged"), line("h;t", 10, "SOFT 1", 0, 2, how="logged")]
+    mixed = [line("h", 10, "SOFT 1", 0, 1, how="logged", change=2), line("h;s", 10, "HARD 3", 0, 2, host=1, how="logged", change=3),
+             line("h;t", 10, "SOFT 1", 0, 2, how="logged", change=1)]
     told = [folder.report(line("h", 0, "HARD 1", 0, 0, how="logged") + "".join(order)) for order in (mixed, mixed[::-1])]
     yield "results of obsessing commands in any order", told[0] == told[1] and "1  unexplained" in told[0] and "by Nagios's own rules CRITICAL HARD 1" in told[0]
+    family = Folder(program, work / "family", HOST.format("g") + HOST.format("c").replace("\tmax", "\tparents\tg\n\tmax"), 60)
+    begun = line("g", 0, "HARD 1", 0, 0, how="logged") + line("c", 0, "HARD 1", 0, 0, how="logged")
+    mixed = [line("c", 10, "SOFT 1", 0, 1, how="logged", change=1), line("g", 10, "SOFT 1", 0, 1, how="logged", change=2)]
+    told = [counts(family.report(begun + "".join(order) + line("c", 70, "SOFT 2", 1, 2, how="logged", change=3))) for order in (mixed, mixed[::-1])]
+    yield "a host that goes down in the second before its parent does", [(each["results compared"], each["unexplained"]) for each in told] == [(5, 0), (5, 0)]
+    killed = line("h;s", 0, "HARD 1", 0, 0) + line("h;s", 60, "SOFT 1", 0, 2) + line("h;s", 120, "SOFT 1", 2, 2, started=100)
+    told = [folder.report(killed)]
+    for words in ("Caught SIGHUP, restarting...", "PROGRAM_SHUTDOWN event encountered, shutting down..."):
+        (folder.path / "nagios.log").write_text(f"[{START + 99}] {words}\n[{START + 100}] Nagios 4.4.6 starting... (PID=1)\n")
+        os.utime(folder.path / "nagios.log", (START + 100, START + 100))
+        told.append(folder.report(killed))
+    yield "a killed Nagios has an older state, one that was asked to end hasn't", [counts(each)["unexplained"] for each in told] == [0, 1, 1]
     yield "lines of another form", counts(folder.report("nothing\n" + line("h;u", 0, "HARD 1", 0, 0)))["lines of another form"] == 1
     (work / "bad.cfg").write_text("interval_length=60\n")
     bad = subprocess.run([*folder.command()[:-2], work / "bad.cfg", folder.results], capture_output=True, text=True, timeout=LIMIT)
     yield "a configuration without objects", (bad.returncode, "name the file by --objects" in bad.stderr) == (1, True)
     lines = subprocess.run([sys.executable, TOP / "tools/second_opinion.py", "--lines", "/f"], capture_output=True, text=True).stdout
-    yield "the lines of nagios.cfg", [text.count("\\t") for text in re.findall(r"_template=(.*)", lines)] == [12, 12] and lines.count("\\073") == 1
+    yield "the lines of nagios.cfg", [text.count("\\t") for text in re.findall(r"_template=(.*)", lines)] == [15, 15] and lines.count("\\073") == 1
 
 
 def check_followed(program: str, work: pathlib.Path):
@@ -131,13 +151,14 @@ def check_followed(program: str, work: pathlib.Path):
     run = folder.follow()
     time.sleep(2)
     folder.results.rename(folder.path / "results.1")
-    folder.results.write_text(line("h;s", 60, "SOFT 1", 0, 2) + line("h;s", 120, "SOFT 2", 2, 2))
+    time.sleep(1)
+    with (folder.path / "results.1").open("a") as results:
+        results.write(line("h;s", 60, "SOFT 1", 0, 2))
+    folder.results.write_text(line("h;s", 120, "SOFT 2", 2, 2))
     time.sleep(2)
     (folder.path / "objects.cache").write_text(HOST.format("h") + SERVICE.format("h", "s") + SERVICE.format("h", "new"))
-    os.utime(folder.path / "objects.cache", (START, START))
-    time.sleep(2)
     with folder.results.open("a") as results:
-        results.write(line("h;new", 130, "HARD 1", 0, 0) + line("h;s", 180, "SOFT 1", 0, 2))
+        results.write(line("h;new", 130, "HARD 1", 0, 0, started=125) + line("h;s", 180, "SOFT 1", 0, 2, started=125))
     time.sleep(13)
     run.send_signal(signal.SIGTERM)
     found = counts(run.communicate(timeout=LIMIT)[0])

@@ -142,8 +142,7 @@ def all_faults() -> Iterator[str]:
 
 def main() -> int:
     named = {word: anchors.text_of(pathlib.Path(word)) for word in sys.argv[1:]} or {anchors.name_of(page): anchors.text_of(page) for page in anchors.PAGES}
-    wrong = [f"{name}: {fault}" for name, page in named.items() for fault in faults(page)]
-    wrong += [] if sys.argv[1:] else [*dead_links(), *messages.faults(WORDS)]
+    wrong = [f"{name}: {fault}" for name, page in named.items() for fault in faults(page)] if sys.argv[1:] else list(all_faults())
     size, mean, habits = page_sums(named)
     print("\n".join([*wrong, f"{len(wrong)} faults; {size:,} bytes, {mean:.1f} words per sentence, {habits} habits"]))
     return 1 if wrong else 0

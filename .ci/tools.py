@@ -311,7 +311,7 @@ def check_site(work):
     (work / "resource.cfg").write_text("$USER1$=/plugins\n")
     status, _, told = run_from_nagios("--site", work / "site", "--resource", work / "resource.cfg", work / "site.cfg", work / "site.precache")
     files = {path.stem: json.loads(path.read_text()) for path in (work / "site").glob("*.json")} if status == 0 else {}
-    yield "the files of a site", sorted(files) == ["commands", "groups", "inventory", "monitor", "passive", "periods", "setup"]
+    yield "the files of a site", sorted(files) == ["commands", "directory", "groups", "inventory", "monitor", "passive", "periods", "setup"]
     commands = files["commands"]
     yield "its limits", (commands["h"]["limit"], commands["h;plain"]["limit"]) == (7, 20)
     yield "its shells", (commands["h;piped"].get("shell"), commands["h;plain"].get("shell")) == (True, None)
@@ -341,6 +341,9 @@ def check_pictures():
     words = [sys.executable, TOP / "tools/timeline.py", TOP / "examples/sequence.txt", TOP / "examples/sequence.out", "--objects", "web;http"]
     sequence = subprocess.run(words, capture_output=True, text=True).stdout
     yield "the picture of a sequence", sequence == (TOP / "docs/sequence.svg").read_text()
+    for script, picture in (("lanes.py", "lanes.svg"), ("overview.py", "parts.svg")):
+        drawn_again = subprocess.run([sys.executable, TOP / "tools" / script], capture_output=True, text=True).stdout
+        yield f"the picture {picture}", drawn_again == (TOP / "docs" / picture).read_text()
     yield "the picture of a drill", len(xml.dom.minidom.parseString(drawn[1]).getElementsByTagName("rect")) > 20
 
 
