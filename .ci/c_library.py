@@ -7,8 +7,8 @@ With --proved the library is built from what `rt ci` has just proved in this tre
 
 The examples print their histories: the one in C has four workers and an operator, the one in Python two workers. The entries of each pass are its
 calls, and runs are numbered 1, 2, 3 and so on. The answers are those of the program to the same calls in that order. Mistakes change nothing. Each
-request for memory is refused in turn. The library answers the conformance cases of `run` as the program does. Header, Python file and definition have
-the same numbers. Two threads read the same handles at once, under ThreadSanitizer if the compiler has it.
+request for memory is refused in turn. The library answers the conformance cases of `run` without `list` as the program does. Header, Python file and
+definition have the same numbers. Two threads read the same handles at once, under ThreadSanitizer if the compiler has it.
 """
 import collections
 import json
@@ -300,8 +300,11 @@ def input_cases():
         found = re.fullmatch(r"run( --start[ =]\+?(\d+))?( --)?", " ".join(case.arguments))
         if found is None:
             continue
-        setup, *calls = case.given.split(b"\n")
-        lines = [(found[2] or "0").encode(), setup, *(script_words(call).encode() for call in calls if call.strip(b" \t\r"))]
+        setup, *lines = case.given.split(b"\n")
+        calls = [script_words(line).encode() for line in lines if line.strip(b" \t\r")]
+        if b"list" in calls:
+            continue  # the library reads standings by glances, and lists nothing
+        lines = [(found[2] or "0").encode(), setup, *calls]
         yield case.name, b"".join(line + b"\n" for line in lines), case.wanted
 
 
@@ -335,7 +338,8 @@ def check_first_programs(harness, library, pages):
     """The first programs print the output that the pages show after them."""
     made = {"first.c": run_command(library.compile_program(EXAMPLES / "first.c")), "first.py": library.run_python(EXAMPLES / "first.py")}
     for name, ran_once in made.items():
-        harness.compare(f"{name}: its output is on a page", (0, True), (ran_once.returncode, f"```\n{ran_once.stdout.decode()}```" in pages))
+        lines = ran_once.stdout.decode().splitlines()
+        harness.compare(f"{name}: its output is on a page", (0, 2, True), (ran_once.returncode, len(lines), all(f"`{line}`" in pages for line in lines)))
 
 
 def check_pages(harness, library):
