@@ -15,19 +15,14 @@ ghost use Rattle.check_book.specs.contracts.book.BookKept.TheImpl.{ghosts as kep
 ghost use Rattle.check_book.specs.Books.{entries_of, opening_of, refused_of, room_of, state_of};
 
 use crate::passes::{Hold, Pass, Turn};
+use crate::waiting::Patience;
 use check_book::Book;
 use check_sched::{Call, Reply};
 use check_states::{Standing, decode};
-use crossbeam_utils::Backoff;
 use std::alloc::Global;
 use std::sync::Wait;
-use std::thread::yield_now;
 use ticket_lock::{Look, Seat, TicketLock};
 use ticket_steps::{DRAWS, Kept, NoMemory};
-
-/// The number of pauses of a waiting call between polls before the call yields. Each pause is twice as long
-/// as the one before.
-const PAUSES: u32 = 3;
 
 /// A book in a lock, for up to 1,024 callers in any threads.
 ///
@@ -251,7 +246,8 @@ impl Desk {
     /// A whole call: takes a ticket, waits until its turn comes, and makes the call. The answer is `Spent`,
     /// and nothing is done, exactly if the pass has no call left.
     ///
-    /// The contract holds when the call returns. It doesn't say how long the call waits.
+    /// The contract holds when the call returns. It doesn't say how long the call waits. A caller that waits
+    /// for more than some microseconds sleeps, and rests before the call returns, for up to 50 milliseconds.
     #[tactic(auto, using(crate::proofs::PassLemmas::seen_history))]
     pub fn ask(&self, rt: &impl Wait, pass: Pass, call: Call) -> (Pass, Answer)
         requires { IsPassOf self.now pass }
@@ -264,16 +260,18 @@ impl Desk {
     {
         match self.begin(pass) {
             Ok(turn) => {
-                let hold = self.wait(rt, turn);
-                self.finish(hold, call)
+                let mut patience = Patience::new();
+                let hold = self.wait(rt, turn, &mut patience);
+                let ended = self.finish(hold, call);
+                patience.rest(rt);
+                ended
             }
             Err(pass) => (pass, Answer::Spent),
         }
     }
 
-    /// Polls until the turn has come. Between the first polls it pauses, each time longer. Between all later
-    /// polls it yields, so that an earlier caller without a processor gets one.
-    fn wait(&self, rt: &impl Wait, turn: Turn) -> Hold
+    /// Polls until the turn has come. Between two polls it waits as its patience says.
+    fn wait(&self, rt: &impl Wait, turn: Turn, patience: &mut Patience) -> Hold
         requires { IsWaitingAt self.now turn }
         ensures desk { IsHolderAt self.now result }
         ensures follows { Follows (turn_caller turn).numbers (turn_caller turn).seen
@@ -281,20 +279,13 @@ impl Desk {
         ensures caller { hold_caller result
             ≡ caller_with_history (hold_caller result).seen (turn_caller turn) }
     {
-        let backoff = Backoff::new();
-        let mut pauses = 0u32;
         let mut turn = turn;
         for _ in rt.forever() {
             turn = match self.poll(turn) {
                 Poll::Mine(hold) => return hold,
                 Poll::NotYet(turn) => turn,
             };
-            if pauses < PAUSES {
-                backoff.spin();
-                pauses += 1;
-            } else {
-                yield_now();
-            }
+            patience.wait(rt);
         }
         unreachable!()
     }

@@ -14,11 +14,13 @@
 //! The modules:
 //! - `passes`: passes, turns and holds;
 //! - `desk`: the desk and its calls;
+//! - `waiting`: pauses, sleeps and rests of a caller that waits;
 //! - `laws`: the laws of the history that all callers share, and of every pass.
 
 mod desk;
 pub mod laws;
 mod passes;
+mod waiting;
 
 pub use desk::{Answer, Desk, Poll};
 pub use passes::{Hold, Pass, Turn};
