@@ -6,7 +6,7 @@
 The answers, the exit status and the calls don't depend on the pieces. An input is read to its end, and the text is written by one call. A
 conversation writes its answers before it reads more. A failed read ends in status 3 with nothing written; in a conversation, with the answers
 to the lines that came. It isn't repeated. A write that fails, or takes no byte, ends in status 3 with the bytes that were taken, and nothing
-is read after it. Only an interrupted write is made again.
+is read after it. Only an interrupted write is made again. Standard error says which stream failed, and why.
 """
 from __future__ import annotations
 
@@ -32,6 +32,15 @@ FAILED = 3
 READ_ERRORS = (errno.EIO, errno.EINTR, errno.ENOMEM, errno.EAGAIN, errno.EPIPE)
 NO_BYTE = 0
 WRITE_ERRORS = (errno.EIO, errno.ENOMEM, errno.EAGAIN, errno.EPIPE, NO_BYTE)
+# What standard error says of each.
+REASONS = {
+    errno.EIO: b"it is closed, or the device failed",
+    errno.EINTR: b"a signal came",
+    errno.ENOMEM: b"memory ran out",
+    errno.EAGAIN: b"it doesn't wait",
+    errno.EPIPE: b"nothing reads it any more",
+    NO_BYTE: b"it takes no more bytes",
+}
 # The most places at which an input or an output fails, and the number of bytes from which on it is three places.
 PLACES = 60
 LONG = 8_000
@@ -95,11 +104,12 @@ class Device(NamedTuple):
 
 
 class Outcome(NamedTuple):
-    """The outcome of a run: its output, its exit status, and its calls."""
+    """The outcome of a run: its output, its exit status, its calls, and what it says on standard error."""
 
     text: bytes
     status: int
     call_log: str
+    explanation: bytes
 
 
 class Shim:
@@ -117,8 +127,8 @@ class Shim:
             given.seek(0)
             own = {name.upper(): str(int(value)) for name, value in device._asdict().items()}
             own |= {"LD_PRELOAD": self.library, "CALLS": calls.name}
-            ran = subprocess.run([self.program, *job.arguments], stdin=given, stdout=subprocess.PIPE, env=os.environ | own, timeout=SECONDS, check=False)
-            return Outcome(ran.stdout, ran.returncode, calls.read().decode())
+            ran = subprocess.run([self.program, *job.arguments], stdin=given, capture_output=True, env=os.environ | own, timeout=SECONDS, check=False)
+            return Outcome(ran.stdout, ran.returncode, calls.read().decode(), ran.stderr)
 
 
 def case_job(name: str, reads: bool = True) -> Job:
@@ -189,6 +199,12 @@ class Trial(NamedTuple):
         yield "the number of writes", self.writes not in (0, ran.call_log.count("w"))
         behind = ran.call_log.split("w", self.device.write_at)[self.device.write_at :] if self.device.write_at else []
         yield "a read after the write", self.status == FAILED and "r" in "".join(behind)
+        yield "the explanation", self.status == FAILED and ran.explanation != self.explanation()
+
+    def explanation(self) -> bytes:
+        """What standard error says of the failure."""
+        failed = b"standard input can't be read" if self.device.read_at else b"standard output can't be written"
+        return b"nagsched: %b: %b\n" % (failed, REASONS[self.device.fault])
 
     def fault(self, ran: Outcome) -> str:
         """How the outcome differs, or nothing."""

@@ -35,6 +35,7 @@ class Harness:
     def run(self, arguments: Sequence[str], given: Union[bytes, int], **how: Any) -> tuple[Any, Optional[int]]:
         """The program's output on an input, and its exit status. The input is bytes, or a file's number."""
         how["input" if isinstance(given, bytes) else "stdin"] = given
+        how.setdefault("stderr", subprocess.DEVNULL)
         try:
             ran = subprocess.run([self.program, *arguments], stdout=subprocess.PIPE, timeout=SECONDS, **how)
         except subprocess.TimeoutExpired:

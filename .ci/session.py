@@ -3,12 +3,13 @@
 
     .ci/session.py [PROGRAM]     crates/nagsched/out/nagsched if no program is named
 
-Arguments that are no text, help, the version, an unreadable input, an output whose reader has gone away, and a full device. The number of bytes read of
-a long document, the number of writes, and an input from a terminal. A folder serves as an unreadable input: a job that reads it ends in status 3. A job
-that doesn't read it never notices: arguments that ask for help or the version, or that are refused.
+Arguments that are no text, help, the version, an unreadable input, an output whose reader has gone away, and a full device. The sentences on standard
+error about them. The number of bytes read of a long document, the number of writes, and an input from a terminal. A folder serves as an unreadable
+input: a job that reads it ends in status 3. A job that doesn't read it never notices: arguments that ask for help or the version, or that are refused.
 """
 import os
 import pty
+import random
 import re
 import socket
 import subprocess
@@ -16,6 +17,7 @@ import tempfile
 import termios
 
 from program import EXAMPLES, REFUSED_WORDS, SERVICE, TOP, Harness
+from cases import cases
 
 TAKE = b'["take",0]\n'
 SAVE = b'["save"]\n'
@@ -41,6 +43,63 @@ NO_VERSIONS = (["run", "--version"], ["check", "-V"], ["walk", "--version"], ["h
 NO_JOB = (["walk"], ["check", "--resume", "--line"], ["drill", "--resume"], ["schema", "--resume"], ["--resume"], ["run", "--resume=1"])
 NO_TEXT = ([b"\xff"], [b"run", b"--start", b"\xff"], [b"drill", b"--workers", b"1", b"\xc3"], [b"--help", b"\xed\xa0\x80"])
 
+# Refused arguments, and what explains them on standard error.
+RUN, CHECK = "run takes only the options --start N, --resume and --help", "check takes only the options --start N, --line, --resume and --help"
+DRILL = "the options --start N, --workers N, --room N and --help"
+COMMANDS = "the command must be run, live, check, drill, schema or help, not "
+STARTS, WORKERS, ROOM = (f"a whole number from {least} to {most}" for least, most in ((0, 2**60), (1, 64), (0, 1_000_000)))
+EXPLAINED = {
+    # A mistyped command is at most two characters away from the one that is named, and no other is nearer.
+    "chekc": COMMANDS + '"chekc" (did you mean check?)',
+    "shcema --resume": COMMANDS + '"shcema" (did you mean schema?)',
+    "rn": COMMANDS + '"rn" (did you mean run?)',
+    "runner": COMMANDS + '"runner"',
+    "walk --version": COMMANDS + '"walk"',
+    "help rum": COMMANDS + '"rum" (did you mean run?)',
+    "help --version": COMMANDS + '"--version"',
+    "-": COMMANDS + '"-"',
+    "--strat 7": '"--strat" isn\'t an option of nagsched, which takes a command or the options --help and --version',
+    "--hepl": '"--hepl" isn\'t an option of nagsched, which takes a command or the options --help and --version (did you mean --help?)',
+    "-v": '"-v" isn\'t an option of nagsched, which takes a command or the options --help and --version',
+    "live --strat=5": '"--strat=5" isn\'t an option of live, which takes the options --start N, --resume and --help (did you mean --start?)',
+    "drill --wrokers 1": f'"--wrokers" isn\'t an option of drill, which takes {DRILL} (did you mean --workers?)',
+    "drill --foo": f'"--foo" isn\'t an option of drill, which takes {DRILL} (did you mean --room?)',
+    "schema -x": '"-x" isn\'t an option of schema, which takes the option --help',
+    "--resume": '"--resume" is an option of run, live and check, not of nagsched',
+    "run --workers 2": '"--workers" is an option of drill, not of run',
+    "live --line": '"--line" is an option of check, not of live',
+    "schema --start=5": '"--start=5" is an option of run, live, check and drill, not of schema',
+    "check -V": '"-V" is an option of nagsched, not of check',
+    "run --start": f"--start needs a value, {STARTS}",
+    "live --start --resume": f"--start needs a value, {STARTS}",
+    "run --start -5": f"--start needs a value, {STARTS}",
+    "drill --room 5 --workers": f"--workers needs a value, {WORKERS}",
+    "run --start x": f'the value of --start must be {STARTS}, not "x"',
+    "run --start -": f'the value of --start must be {STARTS}, not "-"',
+    "run --start=": f'the value of --start must be {STARTS}, not ""',
+    f"check --resume --start {2**60 + 1}": f'the value of --start must be {STARTS}, not "{2**60 + 1}"',
+    "drill --workers=65": f'the value of --workers must be {WORKERS}, not "65"',
+    "drill --workers 0": f'the value of --workers must be {WORKERS}, not "0"',
+    "drill --start 7 --room 1000001 --foo": f'the value of --room must be {ROOM}, not "1000001"',
+    "run --resume=1": '--resume takes no value, so it can\'t be given as "--resume=1"',
+    "--version=1": '--version takes no value, so it can\'t be given as "--version=1"',
+    "run --start 7 --resume --start=8": "--start must be given only once",
+    "check --line --line": "--line must be given only once",
+    "check --resume --line": "--line and --resume can't be combined",
+    "check --line --start 5 --resume": "--line and --resume can't be combined",
+    "run here": f'"here" is one argument too many: {RUN}',
+    "run --start 7 8": f'"8" is one argument too many: {RUN}',
+    "run -- --start": f'"--start" is one argument too many: {RUN}',
+    "check a\nfile\x01": f'"a\\nfile\\u0001" is one argument too many: {CHECK}',
+    "schema x": '"x" is one argument too many: schema takes only the option --help',
+    "help run x": '"x" is one argument too many: help takes only the name of one command',
+    "-- run": '"run" is one argument too many: nagsched takes only a command or the options --help and --version',
+}
+# Words of random arguments, and what no explanation of arguments says, since the first wrong one is always found.
+WORDS = ("run", "live", "check", "drill", "schema", "help", "--start", "--resume", "--line", "--workers", "--room", "--start=7", "--room=x", "--line=",
+         "--help", "-h", "--version", "-V", "--", "-", "", "7", "70", "x", "rum", "--strat", "-x", "=", "--=5", "-h=1", "--help=1")
+TRIES, NOT_FOUND = 600, b"can't be read as a command"
+
 
 def run_without_input(harness, arguments):
     """The program's output on these arguments, and its status, if the input can't be read."""
@@ -56,7 +115,7 @@ def status_of_torn_pipe(harness, arguments, given):
     reading, writing = os.pipe()
     os.close(reading)
     try:
-        return subprocess.run([harness.program, *arguments], input=given, stdout=writing).returncode
+        return subprocess.run([harness.program, *arguments], input=given, stdout=writing, stderr=subprocess.DEVNULL).returncode
     finally:
         os.close(writing)
 
@@ -64,12 +123,12 @@ def status_of_torn_pipe(harness, arguments, given):
 def status_of_full_device(harness, arguments, given):
     """The status when no byte of the program's output finds room."""
     with open("/dev/full", "wb") as full:
-        return subprocess.run([harness.program, *arguments], input=given, stdout=full).returncode
+        return subprocess.run([harness.program, *arguments], input=given, stdout=full, stderr=subprocess.DEVNULL).returncode
 
 
 def status_with_open_input(harness, given, output):
     """The status of a conversation that can't write its answers to these lines, while more lines may come."""
-    with subprocess.Popen([harness.program, "live"], stdin=subprocess.PIPE, stdout=output) as live:
+    with subprocess.Popen([harness.program, "live"], stdin=subprocess.PIPE, stdout=output, stderr=subprocess.DEVNULL) as live:
         live.stdin.write(given)
         live.stdin.flush()
         try:
@@ -155,6 +214,61 @@ def refused_words(harness):
         harness.compare(arguments, (REFUSED_WORDS, 2), run_without_input(harness, arguments))
 
 
+def refusal(sentence):
+    """The line that explains refused arguments."""
+    return f"nagsched: {sentence}; try: nagsched --help\n".encode()
+
+
+def error_text(harness, arguments, **streams):
+    """What the program writes on standard error, and its exit status."""
+    streams = {"stdin": subprocess.DEVNULL, "stdout": subprocess.DEVNULL, **streams}
+    ran = subprocess.run([harness.program, *arguments], stderr=subprocess.PIPE, timeout=SECONDS, **streams)
+    return ran.stderr, ran.returncode
+
+
+def explained_words(harness):
+    """A sentence on standard error says which argument is refused and why. Other arguments leave standard error empty."""
+    for words, sentence in EXPLAINED.items():
+        arguments = words.split(" ")
+        harness.compare(arguments, (refusal(sentence), 2), error_text(harness, arguments))
+        harness.compare(arguments, (REFUSED_WORDS, 2), run_without_input(harness, arguments))
+    for arguments in NO_TEXT:
+        harness.compare(arguments, (refusal("the arguments must be UTF-8 text"), 2), error_text(harness, arguments))
+    for arguments in ([], ["run"], ["live", "--start=7"], ["--help"], ["--version"], ["help", "drill"], ["schema"]):
+        harness.compare(f"{arguments}: nothing to explain", (b"", 0), error_text(harness, arguments))
+
+
+def explained_cases(harness):
+    """Each refused argument of a case, and of random arguments, is found."""
+    chosen = random.Random(1)
+    lists = [case.arguments for case in cases() if case.wanted == REFUSED_WORDS]
+    lists += [chosen.choices(WORDS, k=chosen.randrange(1, 6)) for _ in range(TRIES)]
+    for arguments in lists:
+        text, status = error_text(harness, arguments)
+        found = text.startswith(b"nagsched: ") and text.endswith(b"; try: nagsched --help\n") and text.count(b"\n") == 1 and NOT_FOUND not in text
+        harness.compare(f"{arguments}: {text!r}", status == 2, found)
+
+
+def explained_devices(harness):
+    """A sentence on standard error says which stream failed, and what the system says about it."""
+    folder, full = os.open(EXAMPLES, os.O_RDONLY), os.open("/dev/full", os.O_WRONLY)
+    reading, torn = os.pipe()
+    os.close(reading)
+    try:
+        for what, streams, sentence in [
+            ("a folder", {"stdin": folder}, "standard input can't be read: it is a folder"),
+            ("a closed input", {"preexec_fn": lambda: os.close(0)}, "standard input can't be read: it is closed, or the device failed"),
+            ("a full device", {"stdout": full}, "standard output can't be written: the device is full"),
+            ("a torn pipe", {"stdout": torn}, "standard output can't be written: nothing reads it any more"),
+            ("a closed output", {"preexec_fn": lambda: os.close(1)}, "standard output can't be written: it is closed, or the device failed"),
+        ]:
+            for arguments in (["check"], ["drill"], ["live"]) if "input" in sentence else (["check"], ["--version"], ["walk"]):
+                harness.compare(f"{arguments}: {what}", (f"nagsched: {sentence}\n".encode(), 3), error_text(harness, arguments, **streams))
+    finally:
+        for number in (folder, full, torn):
+            os.close(number)
+
+
 def faults(harness):
     """An input that can't be read, and an output that can't be written, have status 3, for any output."""
     resumed = ["run", "--resume"], ["live", "--resume"], ["check", "--resume"]
@@ -236,6 +350,7 @@ def terminals(harness):
 
 
 harness = Harness("session")
-for part in (helps, versions, schema, refused_words, faults, faults_of_conversations, three_workers, long_documents, writes, terminals):
+EXPLANATIONS = explained_words, explained_cases, explained_devices
+for part in (helps, versions, schema, refused_words, *EXPLANATIONS, faults, faults_of_conversations, three_workers, long_documents, writes, terminals):
     part(harness)
 harness.end()

@@ -4,19 +4,22 @@
 //! reads a setup, and reports its figures or why it is refused. `drill` reads a setup and a script for many
 //! workers, and writes the history that they made. `schema` reads nothing, and writes the JSON schema of a setup.
 //!
-//! This crate has the program's arguments and streams. `session` of `nagsched_cli` does the work and returns the
-//! exit status.
+//! This crate has the program's arguments and streams. `session` of `nagsched_cli` does the work.
 
 ghost use Rattle.std.specs.Prelude.{◌≡◌, IfOk, map, string_bytes};
 ghost use Rattle.clap.specs.Walk.{texts};
 
+mod device;
 #[cfg(test)]
 mod sessions;
 
+use crate::device::Device;
+use nagsched_cli::devices::{Stream, explain_device};
+use nagsched_cli::explanation::explain_arguments;
 use nagsched_cli::session::{Ending, exit_status, refuse_words, session};
 use nagsched_protocol::DriveError;
 use std::alloc::{AllocError, Global};
-use std::io::{BufWriter, ErrorKind};
+use std::io::{BufWriter, ErrorKind, Write};
 use std::process::ExitCode;
 use std::rt::Env;
 use std::sync::Wait;
@@ -29,12 +32,16 @@ fn main(rt: HostRuntime) -> ExitCode {
 
 /// The session for the program's arguments, from standard input to standard output. Writes are
 /// gathered, and flushed once at the end. `live` also flushes before it reads again. Arguments that aren't
-/// text are refused.
-fn run_program<R: Env + Input + Print + AllocGlobal + Threads + Wait + Sync>(rt: &R) -> u8 {
+/// text are refused. Standard error says in one sentence why arguments are refused, and which stream
+/// failed.
+fn run_program<R: Env + Input + Print + Eprint + AllocGlobal + Threads + Wait + Sync>(
+    rt: &R,
+) -> u8 {
     let alloc = rt.alloc();
-    let Ok(mut writer) = BufWriter::new(alloc, io::writer(rt)) else {
+    let Ok(writer) = BufWriter::new(alloc, io::writer(rt)) else {
         return exit_status(Err(DriveError::Memory));
     };
+    let mut output = Device::new(writer);
     match env::args(rt) {
         Ok(args) => {
             let Ok(args) = args.collect::<Vec<String>>(alloc) else {
@@ -43,10 +50,48 @@ fn run_program<R: Env + Input + Print + AllocGlobal + Threads + Wait + Sync>(rt:
             let Ok(words) = texts_of(alloc, &args) else {
                 return exit_status(Err(DriveError::Memory));
             };
-            session(rt, alloc, &words, &mut rt.reader(), &mut writer)
+            run_session(rt, alloc, &words, &mut output)
         }
         Err(e) if e.kind() == ErrorKind::OutOfMemory => exit_status(Err(DriveError::Memory)),
-        Err(_) => exit_status(refuse_words(&mut writer).map(|()| Ending::RefusedWords)),
+        Err(_) => {
+            let ended = refuse_words(&mut output).map(|()| Ending::RefusedWords);
+            explain_words(rt, "the arguments must be UTF-8 text");
+            exit_status(ended)
+        }
+    }
+}
+
+/// The session for these arguments, from standard input to this output.
+fn run_session<R: Input + Eprint + Threads + Wait + Sync, W: Write>(
+    rt: &R,
+    alloc: Global,
+    words: &[&str],
+    output: &mut Device<W>,
+) -> u8 {
+    let mut input = Device::new(rt.reader());
+    let ended = session(rt, alloc, words, &mut input, output);
+    match ended {
+        Ok(Ending::RefusedWords) => {
+            if let Ok(text) = explain_arguments(alloc, words) {
+                explain_words(rt, text.as_str());
+            }
+        }
+        Err(DriveError::Read) => explain_stream(rt, alloc, Stream::Input, input.error()),
+        Err(DriveError::Write) => explain_stream(rt, alloc, Stream::Output, output.error()),
+        _ => {}
+    }
+    exit_status(ended)
+}
+
+/// Says on standard error why the arguments are refused. If it can't be written, nothing is said.
+fn explain_words<R: Eprint>(rt: &R, text: &str) {
+    let _ = rt.eprintln(format_args!("nagsched: {text}; try: nagsched --help"));
+}
+
+/// Says on standard error which stream failed. If it can't be written, nothing is said.
+fn explain_stream<R: Eprint>(rt: &R, alloc: Global, stream: Stream, kind: Option<ErrorKind>) {
+    if let Ok(text) = explain_device(alloc, stream, kind) {
+        let _ = rt.eprintln(format_args!("nagsched: {text}"));
     }
 }
 

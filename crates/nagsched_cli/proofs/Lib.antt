@@ -1,1 +1,4 @@
 pub mod ArgumentLemmas
+pub mod NearestLemmas
+pub mod WordLemmas
+pub mod QuotedLemmas

@@ -353,7 +353,7 @@ fn read_number(options: &ArgMatches<'_>, name: &str, least: u64, most: u64) -> O
 }
 
 /// The number that std reads as a `u64` from a text, if it is within these limits.
-fn parse_number(text: &str, least: u64, most: u64) -> Option<u64>
+pub(crate) fn parse_number(text: &str, least: u64, most: u64) -> Option<u64>
     ensures value { result ≡ number_between least most text.now }
     ensures limits { IfSome result (λ number. (least ≤ number) × (number ≤ most)) }
 {

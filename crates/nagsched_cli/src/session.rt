@@ -1,10 +1,8 @@
 //! Does the job that the program's arguments ask for, and gives the exit status.
 
-ghost use Rattle.std.specs.Prelude.{◌≡◌, codes, Result, OnOk, OnErr, IsOkUnless};
+ghost use Rattle.std.specs.Prelude.{◌≡◌, codes, OnOk, OnErr, IsOkUnless};
 ghost use Rattle.std.specs.Io.KnownBytes.{Appends};
 ghost use Rattle.clap.specs.Walk.{texts};
-ghost use Rattle.nagsched_protocol.specs.declared.drive_error.DriveError.{DriveError};
-ghost use Rattle.nagsched_cli.specs.declared.session.Ending.{Ending};
 ghost use Rattle.nagsched_protocol.specs.Output.{WroteFront};
 ghost use Rattle.nagsched_protocol.specs.Streams.{streams};
 ghost use Rattle.nagsched_cli.specs.Session.{exit_status, SessionEnds, JobEnded, IsSchemaOutput, IsJobTextOutput, IsWordsOutput};
@@ -35,34 +33,17 @@ pub enum Ending {
     RefusedWords,
 }
 
-/// Does the job that the program's arguments ask for, and returns the exit status. The first argument
-/// is the program's name. The arguments are tested first. If they are refused, the line `refused words`
-/// is written; if they ask for help or the version, that text. In both cases the input isn't read. The
-/// writer is flushed once, at the end. Only `live` flushes it before each read too.
+/// Does the job that the program's arguments ask for. The first argument is the program's name. The
+/// arguments are tested first. If they are refused, the line `refused words` is written; if they ask
+/// for help or the version, that text. In both cases the input isn't read. The writer is flushed once,
+/// at the end. Only `live` flushes it before each read too.
 ///
-/// The status is that of [`exit_status`]. If it means a fault or out of memory, a job leaves what
-/// `run`, `live`, `check`, `write_setup_line` or `drill` says about that error. Without a job, and if
-/// the job is the schema, the reader is as it was, and the writer has got nothing or a prefix of the
-/// text.
+/// [`exit_status`] gives the status. After an error, a job leaves what `run`, `live`, `check`,
+/// `write_setup_line` or `drill` says about that error. Without a job, and if the job is the schema, the
+/// reader is as it was, and the writer has got nothing or a prefix of the text.
 ///
 /// `rt` is the machine that starts threads and waits, which only a drill uses.
 pub fn session<H: Threads + Wait + Sync, R: Read, W: Write>(
-    rt: &H,
-    alloc: Global,
-    words: &[&str],
-    reader: &mut R,
-    writer: &mut W,
-) -> u8
-    ensures { (ended : Result Ending DriveError) × (result ≡ exit_status ended)
-        × SessionEnds (texts words.now) ended
-        (streams (R.remaining reader.old) (R.remaining reader.new)
-        (W.contents writer.old) (W.contents writer.new)) }
-{
-    exit_status(serve(rt, alloc, words, reader, writer))
-}
-
-/// Does the job that the arguments ask for, or answers them.
-fn serve<H: Threads + Wait + Sync, R: Read, W: Write>(
     rt: &H,
     alloc: Global,
     words: &[&str],

@@ -2,7 +2,7 @@
 
 use super::devices::ShortWriter;
 use super::with_host;
-use nagsched_cli::session::session;
+use nagsched_cli::session::{exit_status, session};
 use std::alloc::Global;
 use std::io::ErrorKind;
 use std::sync::Wait;
@@ -24,8 +24,8 @@ fn status_and_rest(
     writer: &mut ShortWriter,
 ) -> (u8, usize) {
     let mut reader = input.as_bytes();
-    let status = session(rt, alloc, words, &mut reader, writer);
-    (status, reader.len())
+    let ended = session(rt, alloc, words, &mut reader, writer);
+    (exit_status(ended), reader.len())
 }
 
 /// Arguments that run, no arguments, and arguments that are refused. Refused ones leave the input as it
