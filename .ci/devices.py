@@ -39,7 +39,8 @@ REASONS = {
     errno.ENOMEM: b"memory ran out",
     errno.EAGAIN: b"it doesn't wait",
     errno.EPIPE: b"nothing reads it any more",
-    NO_BYTE: b"it takes no more bytes",
+    # std reports it as an error of the kind WriteZero, for which there are no words of its own.
+    NO_BYTE: b"it is closed, or the device failed",
 }
 # The most places at which an input or an output fails, and the number of bytes from which on it is three places.
 PLACES = 60

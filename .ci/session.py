@@ -235,7 +235,7 @@ def explained_words(harness):
     for arguments in NO_TEXT:
         harness.compare(arguments, (refusal("the arguments must be UTF-8 text"), 2), error_text(harness, arguments))
     for arguments in ([], ["run"], ["live", "--start=7"], ["--help"], ["--version"], ["help", "drill"], ["schema"]):
-        harness.compare(f"{arguments}: nothing to explain", (b"", 0), error_text(harness, arguments))
+        harness.compare(f"{arguments}: nothing to explain", b"", error_text(harness, arguments)[0])
 
 
 def explained_cases(harness):
