@@ -19,7 +19,7 @@ const LONGEST_SLEEP: u64 = 500;
 const REST: u64 = 16;
 
 /// The longest rest, in microseconds.
-const LONGEST_REST: u64 = 50_000;
+const LONGEST_REST: u64 = 10_000;
 
 /// How long a caller has waited, from its ticket to the end of its call.
 #[derive(Drop)]
