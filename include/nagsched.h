@@ -50,9 +50,9 @@
 #ifndef NAGSCHED_H
 #define NAGSCHED_H
 
-#include <sched.h>
 #include <stddef.h>
 #include <stdint.h>
+#include <sys/select.h>
 
 #ifdef __cplusplus
 extern "C" {
@@ -371,44 +371,81 @@ enum nagsched_result nagsched_running(const struct nagsched_book *book, uint32_t
  * OK. WRONG: the handle has a pass that waits. */
 enum nagsched_result nagsched_free(struct nagsched_handle *handle);
 
-/* The six calls, each tried until its turn has come; between two tries the processor is yielded. The statuses are those of a try, without WAIT. A
- * program with its own way to wait, such as coroutines, makes the tries itself. */
+/* How a call waits for its turn. nagsched_wait waits between two tries: seven pauses, each twice as long as the one before, then sleeps of 10 to 500
+ * microseconds. It never yields: next to a busy program, a thread that yields gets its processor back only after milliseconds, and all later callers
+ * would wait for it. nagsched_rest follows the last try. If the call slept, it sleeps 16 times as long, 10 milliseconds at most: without rests, each
+ * call of waiting threads would take a sleep. A call begins with {0, 0}. */
+struct nagsched_patience {
+    uint32_t pauses;
+    uint32_t slept; /* microseconds */
+};
+
+static inline void nagsched_wait(struct nagsched_patience *patience) {
+    uint32_t left, slept = patience->slept;
+    struct timeval time = {0, slept < 10 ? 10 : slept < 500 ? slept : 500};
+    if (patience->pauses < 7) {
+        for (left = 1u << patience->pauses++; left > 0; left--) __builtin_ia32_pause();
+        return;
+    }
+    if (slept < 10000) patience->slept += (uint32_t)time.tv_usec;
+    select(0, NULL, NULL, NULL, &time);
+}
+
+static inline void nagsched_rest(const struct nagsched_patience *patience) {
+    struct timeval time = {0, patience->slept < 625 ? 16 * patience->slept : 10000};
+    if (patience->slept > 0) select(0, NULL, NULL, NULL, &time);
+}
+
+/* The six calls, each tried until its turn has come; a thread that waits for more than some microseconds sleeps, and rests before it returns. The
+ * statuses are those of a try, without WAIT. A program with its own way to wait, such as coroutines, makes the tries itself. */
 static inline enum nagsched_result nagsched_take(struct nagsched_pass *pass, uint64_t now, struct nagsched_reply *reply) {
+    struct nagsched_patience patience = {0, 0};
     enum nagsched_result status;
-    while ((status = nagsched_try_take(pass, now, reply)) == NAGSCHED_WAIT) sched_yield();
+    while ((status = nagsched_try_take(pass, now, reply)) == NAGSCHED_WAIT) nagsched_wait(&patience);
+    nagsched_rest(&patience);
     return status;
 }
 
 static inline enum nagsched_result nagsched_report(struct nagsched_pass *pass, uint32_t object, uint64_t run, enum nagsched_code code,
                                                    struct nagsched_reply *reply) {
+    struct nagsched_patience patience = {0, 0};
     enum nagsched_result status;
-    while ((status = nagsched_try_report(pass, object, run, code, reply)) == NAGSCHED_WAIT) sched_yield();
+    while ((status = nagsched_try_report(pass, object, run, code, reply)) == NAGSCHED_WAIT) nagsched_wait(&patience);
+    nagsched_rest(&patience);
     return status;
 }
 
 static inline enum nagsched_result nagsched_abandon(struct nagsched_pass *pass, uint32_t object, uint64_t run, uint64_t now,
                                                     struct nagsched_reply *reply) {
+    struct nagsched_patience patience = {0, 0};
     enum nagsched_result status;
-    while ((status = nagsched_try_abandon(pass, object, run, now, reply)) == NAGSCHED_WAIT) sched_yield();
+    while ((status = nagsched_try_abandon(pass, object, run, now, reply)) == NAGSCHED_WAIT) nagsched_wait(&patience);
+    nagsched_rest(&patience);
     return status;
 }
 
 static inline enum nagsched_result nagsched_reschedule(struct nagsched_pass *pass, uint32_t object, uint64_t time, uint32_t forced,
                                                        struct nagsched_reply *reply) {
+    struct nagsched_patience patience = {0, 0};
     enum nagsched_result status;
-    while ((status = nagsched_try_reschedule(pass, object, time, forced, reply)) == NAGSCHED_WAIT) sched_yield();
+    while ((status = nagsched_try_reschedule(pass, object, time, forced, reply)) == NAGSCHED_WAIT) nagsched_wait(&patience);
+    nagsched_rest(&patience);
     return status;
 }
 
 static inline enum nagsched_result nagsched_enable(struct nagsched_pass *pass, uint32_t object, uint32_t on, struct nagsched_reply *reply) {
+    struct nagsched_patience patience = {0, 0};
     enum nagsched_result status;
-    while ((status = nagsched_try_enable(pass, object, on, reply)) == NAGSCHED_WAIT) sched_yield();
+    while ((status = nagsched_try_enable(pass, object, on, reply)) == NAGSCHED_WAIT) nagsched_wait(&patience);
+    nagsched_rest(&patience);
     return status;
 }
 
 static inline enum nagsched_result nagsched_status(struct nagsched_pass *pass, uint32_t object, struct nagsched_reply *reply) {
+    struct nagsched_patience patience = {0, 0};
     enum nagsched_result status;
-    while ((status = nagsched_try_status(pass, object, reply)) == NAGSCHED_WAIT) sched_yield();
+    while ((status = nagsched_try_status(pass, object, reply)) == NAGSCHED_WAIT) nagsched_wait(&patience);
+    nagsched_rest(&patience);
     return status;
 }
 
