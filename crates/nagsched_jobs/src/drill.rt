@@ -90,7 +90,8 @@ fn answer<H: Threads + Wait + Sync, W: Write>(
             write_book(alloc, &book, writer)
         }
         Err(error) => {
-            write_refusal(alloc, error.refusal()?, writer)?;
+            let refused = error.refused()?;
+            write_refusal(alloc, refused.why, writer)?;
             Ok(Outcome::Refused)
         }
     }

@@ -3,6 +3,7 @@ pub mod LiveInput
 pub mod LiveError
 pub mod Script
 pub mod Streams
+pub mod Refused
 pub mod Line
 pub mod FlatLine
 pub mod Command
@@ -15,6 +16,8 @@ pub mod Agreement
 pub mod Start
 pub mod Text
 pub mod LiveText
+pub mod Explanation
 pub mod Capacity
 pub mod Output
 pub mod Written
+pub mod Explained
