@@ -11,7 +11,7 @@ use Rattle.nagsched_protocol.specs.declared.drive_error.DriveError.TheVariants a
 use Rattle.nagsched_protocol.specs.declared.outcome.Outcome.{Outcome}
 use Rattle.nagsched_jobs.specs.Drill.{DrillEnded, IsDrill, IsDrillWritten, IsTextOf, LeavesDrill, WroteDrill, WroteDrillFront, WroteDrillShort, drill_outcome}
 use Rattle.nagsched_protocol.specs.DrillScript.{DrillScript, drill_script_of}
-use Rattle.nagsched_protocol.specs.Refused.{Refused}
+use Rattle.nagsched_protocol.specs.declared.refusal.InputRefusal.{InputRefusal}
 use Rattle.nagsched_protocol.specs.Streams.{HasRead, outcome_by, streams}
 use Rattle.nagsched_protocol.specs.Text.{drill_text, refusal_line}
 use Rattle.nagsched_protocol.specs.Written.{IsTextWritten}
@@ -25,8 +25,8 @@ pub text_of_drill : (start workers room : ℕ) (input : List ℕ) (s : DrillScri
 text_of_drill start workers room input s history refused e d = rw e (record { history = history; refused = refused; drill = d; text_is = refl })
 
 -- the line of the input's refusal
-pub refusal_of_drill : (start workers room : ℕ) (input : List ℕ) (r : Refused) → drill_script_of input ≡ Err r
-    → IsTextOf start workers room input (refusal_line r.why)
+pub refusal_of_drill : (start workers room : ℕ) (input : List ℕ) (r : InputRefusal) → drill_script_of input ≡ Err r
+    → IsTextOf start workers room input (refusal_line r)
 refusal_of_drill start workers room input r e = rw e refl
 
 -- such a text was written, or an error left this of it

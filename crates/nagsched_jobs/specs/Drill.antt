@@ -13,7 +13,7 @@ use Rattle.check_workers.specs.Shifts.{IsShift, Shift, shift_entries}
 use Rattle.nagsched_protocol.specs.declared.drive_error.DriveError.{DriveError}
 use Rattle.nagsched_protocol.specs.declared.drive_error.DriveError.TheVariants as errors
 use Rattle.nagsched_protocol.specs.declared.outcome.Outcome.{Outcome}
-use Rattle.nagsched_protocol.specs.Refused.{Refused}
+use Rattle.nagsched_protocol.specs.declared.refusal.InputRefusal.{InputRefusal}
 use Rattle.nagsched_protocol.specs.DrillScript.{DrillScript, drill_script_of}
 use Rattle.nagsched_protocol.specs.Streams.{HasRead, IsInput, outcome_by}
 use Rattle.nagsched_protocol.specs.Streams.{Streams}
@@ -65,9 +65,9 @@ pub record IsDrillText (s : DrillScript) (start workers room : ℕ) (text : List
   pub text_is : text ≡ drill_text s.setup history refused
 
 -- a text that a drill can write over a script or the input's refusal
-abbrev pub IsTextBy : ℕ → ℕ → ℕ → Result DrillScript Refused → List ℕ → Type 0
+abbrev pub IsTextBy : ℕ → ℕ → ℕ → Result DrillScript InputRefusal → List ℕ → Type 0
 IsTextBy start workers room (Ok s) text = IsDrillText s start workers room text
-IsTextBy start workers room (Err r) text = text ≡ refusal_line r.why
+IsTextBy start workers room (Err r) text = text ≡ refusal_line r
 
 -- A text that a drill can write on the input: the line of its first refusal, or the lines of a history and its total.
 abbrev pub IsTextOf : ℕ → ℕ → ℕ → List ℕ → List ℕ → Type 0

@@ -90,8 +90,7 @@ fn answer<H: Threads + Wait + Sync, W: Write>(
             write_book(alloc, &book, writer)
         }
         Err(error) => {
-            let refused = error.refused()?;
-            write_refusal(alloc, refused.why, writer)?;
+            write_refusal(alloc, error.refusal()?, writer)?;
             Ok(Outcome::Refused)
         }
     }

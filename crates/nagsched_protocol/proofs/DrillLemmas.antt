@@ -2,18 +2,19 @@
 use Rattle.std.proofs.Common.{◌≡◌, ℕ, suc, zero, ◌+◌, ◌≤◌, ◌<◌, ◌==◌, Bool, true, false, cond, ◌&&◌}
 use Rattle.std.proofs.Common.{List, [], ◌∷◌, ◌++◌, length, map, replicate, Option, Some, None, get_or, append-nil}
 use Rattle.std.proofs.Common.{refl, sym, ◌∙◌, ap, inl, inr, arith, Result, Ok, Err}
-use Rattle.std.specs.Prelude.{nat_lt, unwrap_or, filter_map}
-use Rattle.std.specs.List.{last_or, range_with_len, cons_option}
+use Rattle.std.specs.Prelude.{nat_lt, is_some, unwrap_or, filter_map}
+use Rattle.std.specs.List.{list_all, last_or, range_with_len, cons_option}
 use Rattle.std.proofs.Math.ListN.{set}
 use Rattle.std.proofs.lemmas.List.{ext_get_or, get_or-set_same, get_or-set_other, length-set}
 use Rattle.std.proofs.lemmas.List.Elements.{filter_map-append}
 use Rattle.std.proofs.lemmas.List.FromFn.{get_or-map-range_with_len, length-map-range_with_len}
 use Rattle.std.proofs.lemmas.Bool.{cases_eq, eq-eqb, ne_eqb}
-use Rattle.serde_json.specs.View.{items_view}
+use Rattle.serde_json.specs.View.{view, items_view}
 use Rattle.serde_json.specs.declared.value.Value.{Value}
 use Rattle.check_objects.specs.Configuration.{Configuration, object_count}
+use Rattle.check_objects.specs.JsonTree.{◌>=>◌, whole_number}
 use Rattle.check_states.specs.declared.state.Code.{Code}
-use Rattle.nagsched_protocol.specs.DrillCommand.{Command, PluginOf, MomentAt, drill_command_by, first_and_more}
+use Rattle.nagsched_protocol.specs.DrillCommand.{Command, PluginOf, MomentAt, are_numbers, are_nonempty_numbers, drill_command_by}
 use Rattle.nagsched_protocol.specs.DrillCommanded.{drill_command}
 use Rattle.nagsched_protocol.specs.DrillScript.{DrillScript, drill_over, drill_script_of, returns_after, moment_of, moments_in}
 use Rattle.nagsched_protocol.specs.DrillScript.{returns_below, returns_by, returns_of}
@@ -21,22 +22,31 @@ use Rattle.setup_model.specs.Agreement.{◌>>=◌}
 use Rattle.nagsched_protocol.specs.Input.{first_line_of, lines_of}
 use Rattle.nagsched_protocol.specs.LiveInput.{rest_after_line}
 use Rattle.nagsched_protocol.specs.Script.{commands_of_lines, with_setup_refusal}
+use Rattle.nagsched_protocol.specs.declared.refusal.InputRefusal.TheVariants as refusal
 use Rattle.nagsched_protocol.specs.declared.refusal.LineFault.TheVariants as fault
 use borrow.Author.Tests.{ltb-false}
 use Rattle.check_objects.specs.Setup.{setup_of}
 use Rattle.nagsched_protocol.proofs.InputLemmas.{behind_fewer}
 use Rattle.nagsched_protocol.specs.declared.drill_command.DrillCommand.{DrillCommand}
 use Rattle.nagsched_protocol.specs.declared.script.TheConstants.{MAX_INPUT_BYTES}
-use Rattle.nagsched_protocol.specs.Refused.{Refused, line_refused}
+use Rattle.nagsched_protocol.specs.declared.refusal.InputRefusal.{InputRefusal}
 use Rattle.nagsched_protocol.proofs.ScriptLemmas.{few_behind}
 
--- ---- values
+-- ---- members
 
--- too few values for a plugin
-pub few_values : (vs : List Value) → length vs < 2 → first_and_more (items_view vs) ≡ None
-few_values [] h = refl
-few_values (v ∷ []) h = refl
-few_values (v ∷ w ∷ vs) h = absurd (omega arith)
+-- return codes that go on with those that follow, if there are any
+abbrev pub codes_with_front : List Code → Option (List Code) → Option (List Code)
+codes_with_front front rest = rest >=> λ more. Some (front ++ more)
+
+-- all values are numbers where all members are
+are_numbers_all : (vs : List Value) → list_all (λ v. is_some (whole_number (view v))) vs ≡ are_numbers (items_view vs)
+are_numbers_all [] = refl
+are_numbers_all (v ∷ vs) = ap (λ b. is_some (whole_number (view v)) && b) (are_numbers_all vs)
+
+-- the same of one member or more
+pub are_some_all : (vs : List Value) → 1 ≤ length vs → list_all (λ v. is_some (whole_number (view v))) vs ≡ are_nonempty_numbers (items_view vs)
+are_some_all [] h = absurd (omega arith)
+are_some_all (v ∷ vs) h = are_numbers_all (v ∷ vs)
 
 -- ---- moments
 
@@ -55,21 +65,21 @@ length-moments_in : (commands : List Command) → length (moments_in commands) �
 length-moments_in [] = omega arith
 length-moments_in (c ∷ commands) = length-cons_moment (moment_of c) (moments_in commands) (length commands) (length-moments_in commands)
 
-few_over_by : (c : Configuration) (all : Result (List Command) Refused) (s : DrillScript) (n : ℕ) → ((l : List Command) → all ≡ Ok l → length l ≤ n)
+few_over_by : (c : Configuration) (all : Result (List Command) InputRefusal) (s : DrillScript) (n : ℕ) → ((l : List Command) → all ≡ Ok l → length l ≤ n)
     → (all >>= λ l. Ok (drill_over c l)) ≡ Ok s → length s.moments ≤ n
 few_over_by c (Ok l) s n h e = let k : drill_over c l ≡ s = cc in rw (← k) (omega (arith, length-moments_in l, h l refl))
 few_over_by c (Err r) s n h e = cc
 
-few_by_setup : (setup : Result Configuration Refused) (bytes : List ℕ) (s : DrillScript)
+few_by_setup : (setup : Result Configuration InputRefusal) (bytes : List ℕ) (s : DrillScript)
     → (setup >>= λ c. (commands_of_lines 2 (drill_command_by c) (lines_of bytes) >>= λ all. Ok (drill_over c all))) ≡ Ok s
     → length s.moments ≤ length bytes
 few_by_setup (Ok c) bytes s e =
     few_over_by c (commands_of_lines 2 (drill_command_by c) (lines_of bytes)) s (length bytes) (few_behind (drill_command_by c) 2 bytes) e
 few_by_setup (Err r) bytes s e = cc
 
-few_by_length : (long : Bool) (input : List ℕ) (r : Result DrillScript Refused) (s : DrillScript)
+few_by_length : (long : Bool) (input : List ℕ) (r : Result DrillScript InputRefusal) (s : DrillScript)
     → nat_lt MAX_INPUT_BYTES (length input) ≡ long → (r ≡ Ok s → length s.moments ≤ length input)
-    → cond long (Err (line_refused fault.TooLong 0 None)) r ≡ Ok s → length s.moments ≤ MAX_INPUT_BYTES
+    → cond long (Err (refusal.Line fault.TooLong 0)) r ≡ Ok s → length s.moments ≤ MAX_INPUT_BYTES
 few_by_length true input r s l h e = cc
 few_by_length false input r s l h e = let bounded : length input ≤ MAX_INPUT_BYTES = ltb-false _ _ l in omega (arith, bounded, h e)
 

@@ -14,7 +14,7 @@ use Rattle.nagsched_protocol.specs.Line.{command_of, is_blank}
 use Rattle.nagsched_protocol.specs.LiveInput.{LinePrefix, prefix_of, has_feed, line_meaning_by}
 use Rattle.nagsched_protocol.specs.declared.line.TheConstants.{MAX_LINE_BYTES}
 use Rattle.nagsched_protocol.specs.declared.line_reader.TheConstants.{LINE_PREFIX_BYTES, SETUP_PREFIX_BYTES}
-use Rattle.nagsched_protocol.specs.Refused.{Refused}
+use Rattle.nagsched_protocol.specs.declared.refusal.InputRefusal.{InputRefusal}
 use Rattle.nagsched_protocol.specs.declared.refusal.LineFault.{LineFault}
 use Rattle.nagsched_protocol.proofs.LiveInputLemmas.{first_all, first_on, first_stays}
 
@@ -50,11 +50,11 @@ said_command meaning n kept line x k e f =
     let c : command_of meaning n line ≡ Ok x = sym (ap (command_of meaning n) (kept_bytes kept line k) ∙ kept_command meaning n line) ∙ f in
     rw (b, c) refl
 
-fails_by : {A B : Type 0} (o : Option Refused) (r : Result A Refused) (f : A → Result B Refused) → IsExpectedError o r → IsExpectedError o (r >>= f)
+fails_by : {A B : Type 0} (o : Option InputRefusal) (r : Result A InputRefusal) (f : A → Result B InputRefusal) → IsExpectedError o r → IsExpectedError o (r >>= f)
 fails_by None r f h = tt
 fails_by (Some why) r f h = rw h refl
 
-pub said_fails : {K : Type 0} (meaning : List ℕ → Items → Result K LineFault) (n : ℕ) (kept : LinePrefix) (line : List ℕ) (o : Option Refused)
+pub said_fails : {K : Type 0} (meaning : List ℕ → Items → Result K LineFault) (n : ℕ) (kept : LinePrefix) (line : List ℕ) (o : Option InputRefusal)
     → kept ≡ prefix_of LINE_PREFIX_BYTES line → kept.blank ≡ false → IsExpectedError o (command_of meaning n kept.bytes) → IsExpectedError o (line_meaning_by meaning n line)
 said_fails meaning n kept line o k e f =
     let b = kept_blank kept line false k e in

@@ -12,7 +12,8 @@ use Rattle.check_sched.specs.Saved.{state_after_resume}
 use Rattle.check_sched.specs.State.{State, opening}
 use Rattle.nagsched_protocol.specs.declared.command.RunCommand.{RunCommand}
 use Rattle.nagsched_protocol.proofs.TextLemmas.{command_keeps}
-use Rattle.nagsched_protocol.specs.Refused.{Refused, line_refused}
+use Rattle.nagsched_protocol.specs.declared.refusal.InputRefusal.{InputRefusal}
+use Rattle.nagsched_protocol.specs.declared.refusal.InputRefusal.TheVariants as refusal
 use Rattle.nagsched_protocol.specs.declared.refusal.LineFault.TheVariants as fault
 use Rattle.nagsched_protocol.specs.declared.script.TheConstants.{MAX_INPUT_BYTES}
 use Rattle.nagsched_protocol.specs.declared.start.Start.{Start}
@@ -38,12 +39,12 @@ begun s n bytes = record { state = s; number = n; rest = bytes }
 -- ---- an input that a run accepts
 
 -- the commands go on with what a line says
-abbrev onto : {K : Type 0} → Result (Option K) Refused → Result (List K) Refused → Result (List K) Refused
+abbrev onto : {K : Type 0} → Result (Option K) InputRefusal → Result (List K) InputRefusal → Result (List K) InputRefusal
 onto (Ok None) rest = rest
 onto (Ok (Some x)) rest = rest >>= λ more. Ok (x ∷ more)
 onto (Err e) rest = Err e
 
-onto_command : {K : Type 0} (r : Result K Refused) (rest : Result (List K) Refused)
+onto_command : {K : Type 0} (r : Result K InputRefusal) (rest : Result (List K) InputRefusal)
     → (r >>= λ first. (rest >>= λ more. Ok (first ∷ more))) ≡ onto (r >>= λ x. Ok (Some x)) rest
 onto_command (Ok x) rest = refl
 onto_command (Err e) rest = refl
@@ -58,7 +59,7 @@ commands_said c n line lines =
       | false ↦ onto_command (command_of (command_by c) n line) (commands_from (command_by c) (n + 1) lines)
     ]
 
-agree_by : (s : State) (n : ℕ) (lines : List (List ℕ)) (said_here : Result (Option RunCommand) Refused) (rest : Result (List RunCommand) Refused) (all : List RunCommand)
+agree_by : (s : State) (n : ℕ) (lines : List (List ℕ)) (said_here : Result (Option RunCommand) InputRefusal) (rest : Result (List RunCommand) InputRefusal) (all : List RunCommand)
     → ((t : State) (more : List RunCommand) → t.setup ≡ s.setup → rest ≡ Ok more → answers_from t (n + 1) lines ≡ text_from t more)
     → onto said_here rest ≡ Ok all
     → line_answer s said_here ++ answers_from (state_after_line s said_here) (n + 1) lines ≡ text_from s all
@@ -77,7 +78,7 @@ answers_agree (line ∷ lines) c s n all same e =
     (λ t more kept f. answers_agree lines s.setup t (n + 1) more kept f)
     (sym (commands_said s.setup n line lines) ∙ ap (λ d. commands_from (command_by d) n (line ∷ lines)) same ∙ e)
 
-over_commands : (b : Beginning) (script : Script) (all : Result (List RunCommand) Refused)
+over_commands : (b : Beginning) (script : Script) (all : Result (List RunCommand) InputRefusal)
     → commands_from (command_by b.state.setup) b.number (lines_of b.rest) ≡ all
     → (all >>= λ l. Ok (script_with b.state l)) ≡ Ok script
     → answers_from b.state b.number (lines_of b.rest) ≡ text_from script.state script.commands
@@ -86,15 +87,15 @@ over_commands b script (Ok l) same h =
     let is : (script_with b.state l) ≡ script = cc in
     answers_agree (lines_of b.rest) b.state.setup b.state b.number l refl same ∙ ap (λ (s : Script). text_from s.state s.commands) is
 
-over_agrees : (r : Result Beginning Refused) (script : Script) → (r >>= script_from) ≡ Ok script
+over_agrees : (r : Result Beginning InputRefusal) (script : Script) → (r >>= script_from) ≡ Ok script
     → answers_over r ≡ text_from script.state script.commands
 over_agrees (Err e) script h = cc
 over_agrees (Ok b) script h =
     over_commands b script (commands_of_lines b.number (command_by b.state.setup) (lines_of b.rest))
     (sym (commands_by_number (command_by b.state.setup) b.number (lines_of b.rest))) h
 
-accepted_by : {X : Type 0} (long : Bool) (r : Result X Refused) (script : X)
-    → cond long (Err (line_refused fault.TooLong 0 None)) r ≡ Ok script → r ≡ Ok script
+accepted_by : {X : Type 0} (long : Bool) (r : Result X InputRefusal) (script : X)
+    → cond long (Err (refusal.Line fault.TooLong 0)) r ≡ Ok script → r ≡ Ok script
 accepted_by true r script e = cc
 accepted_by false r script e = e
 
@@ -114,7 +115,7 @@ agrees how input script e = over_agrees (beginning_of how input) script (accepte
 -- ---- the start
 
 -- a script's state is that of its beginning
-behind_state : (b : Beginning) (all : Result (List RunCommand) Refused) (script : Script)
+behind_state : (b : Beginning) (all : Result (List RunCommand) InputRefusal) (script : Script)
     → (all >>= λ l. Ok (script_with b.state l)) ≡ Ok script → script.state ≡ b.state
 behind_state b (Ok l) script h = let is : script ≡ (script_with b.state l) = cc in ap (λ (s : Script). s.state) is
 behind_state b (Err e) script h = cc
@@ -194,11 +195,11 @@ answers_apart s n (x ∷ xs) ys =
     (again.0, ap (λ l. first ++ l) again.1 ∙ sym (append_assoc first _ again.0))
 
 -- a beginning with more bytes behind it
-abbrev more : List ℕ → Result Beginning Refused → Result Beginning Refused
+abbrev more : List ℕ → Result Beginning InputRefusal → Result Beginning InputRefusal
 more back (Ok b) = Ok (record b { rest = b.rest ++ back })
 more back (Err e) = Err e
 
-saved_more : (moment : Option ℕ) (c : Configuration) (r : Result Saved Refused) (rest back : List ℕ)
+saved_more : (moment : Option ℕ) (c : Configuration) (r : Result Saved InputRefusal) (rest back : List ℕ)
     → (r >>= λ s. Ok (begun (state_after_resume_at c s moment) 3 (rest ++ back)))
     ≡ more back (r >>= λ s. Ok (begun (state_after_resume_at c s moment) 3 rest))
 saved_more moment c (Ok s) rest back = refl
@@ -212,7 +213,7 @@ over_more (start.Resumed moment) c bytes back h =
     ∙ ap (λ l. with_saved_refusal (saved_of_text (first_line_of bytes)) >>= λ s. Ok (begun (state_after_resume_at c s moment) 3 l)) (behind_stays bytes back h)
     ∙ saved_more moment c (with_saved_refusal (saved_of_text (first_line_of bytes))) (rest_after_line bytes) back
 
-setup_more : (how : Start) (setup : Result Configuration Refused) (bytes back : List ℕ) → HasStart how bytes
+setup_more : (how : Start) (setup : Result Configuration InputRefusal) (bytes back : List ℕ) → HasStart how bytes
     → (setup >>= λ c. beginning_over how c (bytes ++ back)) ≡ more back (setup >>= λ c. beginning_over how c bytes)
 setup_more how (Ok c) bytes back h = over_more how c bytes back h
 setup_more how (Err e) bytes back h = refl
@@ -240,7 +241,7 @@ record IsLeft (b : Beginning) (lines : ℕ) : Type 0 where
   whole : AreWholeLines b.rest
   count : b.number + length (lines_of b.rest) ≡ lines
 
-saved_left : (moment : Option ℕ) (c : Configuration) (r : Result Saved Refused) (bytes : List ℕ) (b : Beginning) → has_feed bytes ≡ true
+saved_left : (moment : Option ℕ) (c : Configuration) (r : Result Saved InputRefusal) (bytes : List ℕ) (b : Beginning) → has_feed bytes ≡ true
     → AreWholeLines bytes
     → (r >>= λ s. Ok (begun (state_after_resume_at c s moment) 3 (rest_after_line bytes))) ≡ Ok b
     → IsLeft b (length (lines_of bytes) + 2)
@@ -259,7 +260,7 @@ over_left (start.Fresh moment) c bytes b start whole h =
     rw (← is) (record { whole = whole; count = omega arith })
 over_left (start.Resumed moment) c bytes b start whole h = saved_left moment c (with_saved_refusal (saved_of_text (first_line_of bytes))) bytes b start whole h
 
-setup_left : (how : Start) (setup : Result Configuration Refused) (bytes : List ℕ) (b : Beginning) → HasStart how bytes → AreWholeLines bytes
+setup_left : (how : Start) (setup : Result Configuration InputRefusal) (bytes : List ℕ) (b : Beginning) → HasStart how bytes → AreWholeLines bytes
     → (setup >>= λ c. beginning_over how c bytes) ≡ Ok b → IsLeft b (length (lines_of bytes) + 2)
 setup_left how (Ok c) bytes b start whole h = over_left how c bytes b start whole h
 setup_left how (Err e) bytes b start whole h = cc
@@ -278,7 +279,7 @@ parts how front back b h e =
     ap answers_over (begins_on how front back h ∙ ap (more back) e)
     ∙ ap (answers_from b.state b.number) (lines_by b.rest back (left_by how front b h e).whole)
 
-goes_on_by : (how : Start) (front back : List ℕ) (r : Result Beginning Refused) → HasStart how (rest_after_line (front ++ 10 ∷ []))
+goes_on_by : (how : Start) (front back : List ℕ) (r : Result Beginning InputRefusal) → HasStart how (rest_after_line (front ++ 10 ∷ []))
     → beginning_of how (front ++ 10 ∷ []) ≡ r
     → (rest : List ℕ) × (live_text how ((front ++ 10 ∷ []) ++ back) ≡ answers_over r ++ rest)
 unfolding live_text
@@ -294,16 +295,16 @@ goes_on how front back h = goes_on_by how front back (beginning_of how (front ++
 
 -- ---- a refused line
 
-state_after-setup : (s : State) (r : Result (Option RunCommand) Refused) → (state_after_line s r).setup ≡ s.setup
+state_after-setup : (s : State) (r : Result (Option RunCommand) InputRefusal) → (state_after_line s r).setup ≡ s.setup
 state_after-setup s (Ok None) = refl
 state_after-setup s (Ok (Some call)) = command_keeps s call
 state_after-setup s (Err why) = refl
 
 -- the same answers except for that of the refused line
-abbrev pub Passes : List ℕ → List ℕ → Refused → Type 0
-Passes refused passed why = (before : List ℕ) × (behind : List ℕ) × (refused ≡ before ++ (refusal_line why.why ++ behind)) × (passed ≡ before ++ behind)
+abbrev pub Passes : List ℕ → List ℕ → InputRefusal → Type 0
+Passes refused passed why = (before : List ℕ) × (behind : List ℕ) × (refused ≡ before ++ (refusal_line why ++ behind)) × (passed ≡ before ++ behind)
 
-pub passes_in : (xs : List (List ℕ)) (s : State) (n : ℕ) (line : List ℕ) (ys : List (List ℕ)) (why : Refused)
+pub passes_in : (xs : List (List ℕ)) (s : State) (n : ℕ) (line : List ℕ) (ys : List (List ℕ)) (why : InputRefusal)
     → line_meaning_by (command_by s.setup) (n + length xs) line ≡ Err why
     → Passes (answers_from s n (xs ++ line ∷ ys)) (answers_from s n (xs ++ [] ∷ ys)) why
 passes_in [] s n line ys why e =
@@ -332,7 +333,7 @@ pub count_apart : (front : List ℕ) → length (lines_of (front ++ 10 ∷ [])) 
 count_apart [] = ap length (lines_apart 10 [])
 count_apart (b ∷ bs) = ap length (lines_apart b (bs ++ 10 ∷ []))
 
-pub passes : (how : Start) (b : Beginning) (front line back : List ℕ) (why : Refused)
+pub passes : (how : Start) (b : Beginning) (front line back : List ℕ) (why : InputRefusal)
     → HasStart how (rest_after_line (front ++ 10 ∷ [])) → beginning_of how (front ++ 10 ∷ []) ≡ Ok b → has_feed line ≡ false
     → line_meaning_by (command_by b.state.setup) (length (lines_of (front ++ 10 ∷ [])) + 1) line ≡ Err why
     → Passes (live_text how ((front ++ 10 ∷ []) ++ (line ++ 10 ∷ back))) (live_text how ((front ++ 10 ∷ []) ++ (10 ∷ back))) why

@@ -1,15 +1,18 @@
 -- The input of a job, whatever is known of its reader, and what is said of as much of it as is read.
-use Rattle.std.proofs.Common.{◌≡◌, ℕ, ◌<◌, ◌≤◌, true, List, ◌++◌, length, take, Option, Some, None, Result, Err, refl, sym, ap, ◌∙◌}
+use Rattle.std.proofs.Common.{◌≡◌, ℕ, ◌<◌, ◌≤◌, true, List, ◌++◌, length, take, Option, Some, None, Result, Ok, Err, refl, sym, ap, ◌∙◌}
 use Rattle.std.proofs.Common.{arith, length-take, inl, inr, ◌⊎◌}
-use Rattle.std.specs.Prelude.{nat_lt, IfSome}
+use Rattle.std.specs.Prelude.{nat_lt, ok_or, IfSome}
 use Rattle.std.specs.Io.KnownBytes.{Consumes}
 use Rattle.std.proofs.lemmas.Bool.{cases_lt}
 use Rattle.std.proofs.lemmas.Bool.Decides.{nat_tests}
 use Rattle.std.proofs.lemmas.List.{take_all}
 use Rattle.setup_model.specs.Agreement.{IsExpectedError}
+use Rattle.nagsched_protocol.specs.declared.drive_error.DriveError.{DriveError}
+use Rattle.nagsched_protocol.specs.declared.drive_error.DriveError.TheVariants as errors
 use Rattle.nagsched_protocol.specs.declared.input.TheConstants.{MAX_READ_BYTES}
 use Rattle.nagsched_protocol.specs.declared.script.TheConstants.{MAX_INPUT_BYTES}
-use Rattle.nagsched_protocol.specs.Refused.{Refused, line_refused}
+use Rattle.nagsched_protocol.specs.declared.refusal.InputRefusal.{InputRefusal}
+use Rattle.nagsched_protocol.specs.declared.refusal.InputRefusal.TheVariants as refusals
 use Rattle.nagsched_protocol.specs.declared.refusal.LineFault.TheVariants as line_fault
 use Rattle.nagsched_protocol.specs.declared.refusal.ScriptError.{ScriptError}
 use Rattle.nagsched_protocol.specs.declared.refusal.ScriptError.TheVariants as script
@@ -44,13 +47,13 @@ pub is_too_long : (bytes : List ℕ) → MAX_INPUT_BYTES < length bytes → nat_
 is_too_long bytes h = grind (arith, nat_tests, h)
 
 -- an input that is too long
-pub limit_tells : {A : Type 0} (says : List ℕ → Result A Refused) (bytes : List ℕ) → MAX_INPUT_BYTES < length bytes
-    → if_within_limit bytes (says bytes) ≡ Err (line_refused line_fault.TooLong 0 None)
+pub limit_tells : {A : Type 0} (says : List ℕ → Result A InputRefusal) (bytes : List ℕ) → MAX_INPUT_BYTES < length bytes
+    → if_within_limit bytes (says bytes) ≡ Err (refusals.Line line_fault.TooLong 0)
 limit_tells says bytes h = rw (is_too_long bytes h) refl
 
 pub drill_script_take : IsOfRead drill_script_of
 unfolding drill_script_of
-drill_script_take = too_long_tells drill_script_of (Err (line_refused line_fault.TooLong 0 None)) (limit_tells _)
+drill_script_take = too_long_tells drill_script_of (Err (refusals.Line line_fault.TooLong 0)) (limit_tells _)
 
 -- ---- the input of a run, whatever is known of its reader
 
@@ -86,8 +89,13 @@ read_input (Some bytes) left input all c = has_read left input bytes all c
 
 -- ---- errors
 
+-- the error of a reading that met no refusal
+pub no_refusal : (error : ScriptError) (e : DriveError) → Err e ≡ ok_or (refusal error) errors.Memory → e ≡ errors.Memory
+no_refusal script.Memory e is = cc
+no_refusal (script.Refused why) e is = cc
+
 -- the refusal that the reading of an input met is the input's
-pub met_refusal : {Y : Type 0} (error : ScriptError) (r : Refused) (expected : Result Y Refused)
-    → refusal error ≡ Some r → IsExpectedError (refusal error) expected → expected ≡ Err r
+pub met_refusal : {Y : Type 0} (error : ScriptError) (r : InputRefusal) (expected : Result Y InputRefusal)
+    → Ok r ≡ ok_or (refusal error) errors.Memory → IsExpectedError (refusal error) expected → expected ≡ Err r
 met_refusal script.Memory r expected e f = cc
 met_refusal (script.Refused why) r expected e f = cc

@@ -9,24 +9,24 @@ use Rattle.nagsched_protocol.specs.Line.{command_of, is_blank}
 use Rattle.nagsched_protocol.specs.Input.{lines_of, onto_first}
 use Rattle.nagsched_protocol.specs.Script.{all_or_first, commands_of_lines, numbered_from}
 use Rattle.nagsched_protocol.specs.declared.script.TheConstants.{MAX_INPUT_BYTES}
-use Rattle.nagsched_protocol.specs.Refused.{Refused}
+use Rattle.nagsched_protocol.specs.declared.refusal.InputRefusal.{InputRefusal}
 use Rattle.nagsched_protocol.specs.declared.refusal.LineFault.{LineFault}
 use Rattle.nagsched_protocol.specs.declared.refusal.ScriptError.{ScriptError}
 use Rattle.nagsched_protocol.specs.declared.refusal.ScriptError.TheVariants as errors
 
-pub with_front-nothing : {K : Type 0} (rest : Result (List K) Refused) → with_front [] rest ≡ rest
+pub with_front-nothing : {K : Type 0} (rest : Result (List K) InputRefusal) → with_front [] rest ≡ rest
 with_front-nothing (Ok more) = refl
 with_front-nothing (Err e) = refl
 
 -- ---- line after line
 
 -- The commands of the lines from number n on, one line after another.
-abbrev pub commands_from : {K : Type 0} → (List ℕ → Items → Result K LineFault) → ℕ → List (List ℕ) → Result (List K) Refused
+abbrev pub commands_from : {K : Type 0} → (List ℕ → Items → Result K LineFault) → ℕ → List (List ℕ) → Result (List K) InputRefusal
 commands_from meaning n [] = Ok []
 commands_from meaning n (line ∷ lines) = if is_blank line then commands_from meaning (n + 1) lines
     else (command_of meaning n line >>= λ first. (commands_from meaning (n + 1) lines >>= λ more. Ok (first ∷ more)))
 
-abbrev pub commands_at : {K : Type 0} → (List ℕ → Items → Result K LineFault) → List (ℕ × List ℕ) → Result (List K) Refused
+abbrev pub commands_at : {K : Type 0} → (List ℕ → Items → Result K LineFault) → List (ℕ × List ℕ) → Result (List K) InputRefusal
 commands_at meaning numbered_lines = all_or_first (map (λ p. command_of meaning p.0 p.1) numbered_lines)
 
 -- one line after another gives the commands of all
@@ -43,7 +43,7 @@ commands_by_number meaning n (line ∷ ls) =
     ]
 
 -- a blank line is passed over, and counted
-pub blank_passed : {K : Type 0} (meaning : List ℕ → Items → Result K LineFault) (n : ℕ) (all : Result (List K) Refused) (front : List K)
+pub blank_passed : {K : Type 0} (meaning : List ℕ → Items → Result K LineFault) (n : ℕ) (all : Result (List K) InputRefusal) (front : List K)
     (lines : List (List ℕ)) (line : List ℕ) (rest : List (List ℕ))
     → all ≡ with_front front (commands_from meaning n lines) → lines ≡ line ∷ rest → is_blank line ≡ true
     → all ≡ with_front front (commands_from meaning (n + 1) rest)
@@ -52,13 +52,13 @@ blank_passed meaning n all front lines line rest h l b =
     ∙ ap (λ v. with_front front (cond v (commands_from meaning (n + 1) rest)
     (command_of meaning n line >>= λ first. (commands_from meaning (n + 1) rest >>= λ more. Ok (first ∷ more))))) b
 
-front_and_first : {K : Type 0} (front : List K) (first : K) (more : Result (List K) Refused)
+front_and_first : {K : Type 0} (front : List K) (first : K) (more : Result (List K) InputRefusal)
     → with_front front (more >>= λ rest. Ok (first ∷ rest)) ≡ with_front (front ++ first ∷ []) more
 front_and_first front first (Ok rest) = ap Ok (sym (append_assoc front (first ∷ []) rest))
 front_and_first front first (Err e) = refl
 
 -- a line's command stands behind those before it
-pub command_read : {K : Type 0} (meaning : List ℕ → Items → Result K LineFault) (n : ℕ) (all : Result (List K) Refused) (front : List K)
+pub command_read : {K : Type 0} (meaning : List ℕ → Items → Result K LineFault) (n : ℕ) (all : Result (List K) InputRefusal) (front : List K)
     (lines : List (List ℕ)) (line : List ℕ) (rest : List (List ℕ)) (first : K)
     → all ≡ with_front front (commands_from meaning n lines) → lines ≡ line ∷ rest → is_blank line ≡ false → command_of meaning n line ≡ Ok first
     → all ≡ with_front (front ++ first ∷ []) (commands_from meaning (n + 1) rest)
@@ -89,26 +89,26 @@ few_lines bs h = omega (arith, length-lines_of bs, h)
 -- ---- where the reading fails or comes to its end
 
 -- a part that is refused refuses the whole
-pub part_fails : {X Y : Type 0} (e : ScriptError) (part : Result X Refused) (next : X → Result Y Refused)
+pub part_fails : {X Y : Type 0} (e : ScriptError) (part : Result X InputRefusal) (next : X → Result Y InputRefusal)
     → IsExpectedError (refusal e) part → IsExpectedError (refusal e) (part >>= next)
 part_fails errors.Memory part next f = tt
 part_fails (errors.Refused r) part next f = rw f refl
 
 -- so does a part that follows one that was read
-pub part_stops : {X Y : Type 0} (e : ScriptError) (part : Result X Refused) (next : X → Result Y Refused) (x : X)
+pub part_stops : {X Y : Type 0} (e : ScriptError) (part : Result X InputRefusal) (next : X → Result Y InputRefusal) (x : X)
     → part ≡ Ok x → IsExpectedError (refusal e) (next x) → IsExpectedError (refusal e) (part >>= next)
 part_stops errors.Memory part next x s f = tt
 part_stops (errors.Refused r) part next x s f = rw (s, f) refl
 
 -- ---- how many commands there are
 
-few_more : {K : Type 0} (first : Result K Refused) (more : Result (List K) Refused) (n : ℕ) → IfOk more (λ all. length all ≤ n)
+few_more : {K : Type 0} (first : Result K InputRefusal) (more : Result (List K) InputRefusal) (n : ℕ) → IfOk more (λ all. length all ≤ n)
     → IfOk (first >>= λ x. (more >>= λ all. Ok (x ∷ all))) (λ all. length all ≤ suc n)
 few_more (Err e) more n h = tt
 few_more (Ok x) (Err e) n h = tt
 few_more (Ok x) (Ok all) n h = omega (arith, h)
 
-few_by : {K : Type 0} (blank : Bool) (first : Result K Refused) (more : Result (List K) Refused) (n : ℕ) → IfOk more (λ all. length all ≤ n)
+few_by : {K : Type 0} (blank : Bool) (first : Result K InputRefusal) (more : Result (List K) InputRefusal) (n : ℕ) → IfOk more (λ all. length all ≤ n)
     → IfOk (cond blank more (first >>= λ x. (more >>= λ all. Ok (x ∷ all)))) (λ all. length all ≤ suc n)
 few_by true first (Ok all) n h = omega (arith, h)
 few_by true first (Err e) n h = tt

@@ -4,12 +4,8 @@ use Rattle.std.specs.Prelude.{IsErrAnd, IsOkUnless, OnErr, OnOk}
 use Rattle.std.specs.Io.KnownBytes.{Appends, Keeps}
 use Rattle.nagsched_protocol.specs.declared.drive_error.DriveError.{DriveError}
 use Rattle.nagsched_protocol.specs.declared.drive_error.DriveError.TheVariants as errors
-use Rattle.nagsched_protocol.specs.Explained.{IsExplained}
-use Rattle.nagsched_protocol.specs.Explanation.{IsSentence}
 use Rattle.nagsched_protocol.specs.Output.{EndsLine, WroteFront, WroteLinesUpTo, WroteShort}
 use Rattle.nagsched_protocol.proofs.OutputLemmas.{Appends-Keeps, Appends-none, WroteUpTo-all, WroteUpTo-cut, WroteUpTo-next, short_next}
-use Rattle.nagsched_protocol.specs.Refused.{Refused}
-use Rattle.nagsched_protocol.specs.Text.{line_of}
 use Rattle.nagsched_protocol.specs.Written.{IsLineWritten, IsTextWritten, LeftOfLine, LeftOfText}
 
 pub Keeps-same : (known : Option (List ℕ)) → Keeps known known
@@ -45,25 +41,6 @@ line_unwritten (Err e) held line is = rw is (Keeps-same held)
 
 pub line_none : (e : DriveError) (held : Option (List ℕ)) (line : List ℕ) → e ≡ errors.Memory → LeftOfLine e held held line
 line_none e held line is = rw is (Keeps-same held)
-
--- ---- the line of a sentence
-
-explained_by : {T : Type 0} (refused : Refused) (r : Result T DriveError) (old new : Option (List ℕ)) (sentence : List ℕ) → IsSentence refused sentence
-    → IsLineWritten r old new (line_of sentence) → IsExplained refused r old new
-explained_by refused (Ok x) old new sentence is w = (sentence, is, w)
-explained_by refused (Err errors.Read) old new sentence is w = w
-explained_by refused (Err errors.Write) old new sentence is w = (sentence, is, w)
-explained_by refused (Err errors.Memory) old new sentence is w = w
-
-pub explained : {T : Type 0} (refused : Refused) (r : Result T DriveError) (old new : Option (List ℕ)) (sentence text : List ℕ) → IsSentence refused sentence
-    → text ≡ line_of sentence → OnOk r (Appends old new text) → OnErr r (WroteFront old new text) → IsOkUnless r errors.Write → IsExplained refused r old new
-explained refused r old new sentence text is same all front only =
-    explained_by refused r old new sentence is (line_written r old new text (line_of sentence) same all front only)
-
-pub unexplained : {T : Type 0} (refused : Refused) (r : Result T DriveError) (held : Option (List ℕ)) → IsErrAnd r (λ e. e ≡ errors.Memory)
-    → IsExplained refused r held held
-unexplained refused (Ok x) held is = absurd is
-unexplained refused (Err e) held is = rw is (Keeps-same held)
 
 -- ---- a text
 

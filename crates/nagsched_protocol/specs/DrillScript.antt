@@ -5,7 +5,7 @@ use Rattle.check_objects.specs.Configuration.{Configuration, object_count}
 use Rattle.check_objects.specs.Setup.{setup_of}
 use Rattle.setup_model.specs.Agreement.{◌>>=◌}
 use Rattle.check_states.specs.declared.state.Code.{Code}
-use Rattle.nagsched_protocol.specs.Refused.{Refused}
+use Rattle.nagsched_protocol.specs.declared.refusal.InputRefusal.{InputRefusal}
 use Rattle.nagsched_protocol.specs.DrillCommand.{Command, PluginOf, MomentAt, drill_command_by}
 use Rattle.nagsched_protocol.specs.Input.{first_line_of, lines_of}
 use Rattle.nagsched_protocol.specs.LiveInput.{rest_after_line}
@@ -49,6 +49,6 @@ abbrev pub drill_over : Configuration → List Command → DrillScript
 drill_over c commands = record { setup = c; returns = returns_below (object_count c) commands; moments = moments_in commands }
 
 -- The script of an input of `drill`, or its first refusal: line 1 is the setup document, and every later line a command.
-unfoldable pub drill_script_of : List ℕ → Result DrillScript Refused
+unfoldable pub drill_script_of : List ℕ → Result DrillScript InputRefusal
 drill_script_of input = if_within_limit input (with_setup_refusal (setup_of (first_line_of input)) >>= λ c.
     (commands_of_lines 2 (drill_command_by c) (lines_of (rest_after_line input)) >>= λ all. Ok (drill_over c all)))

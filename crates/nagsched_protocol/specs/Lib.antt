@@ -3,7 +3,6 @@ pub mod LiveInput
 pub mod LiveError
 pub mod Script
 pub mod Streams
-pub mod Refused
 pub mod Line
 pub mod FlatLine
 pub mod Command
@@ -16,8 +15,6 @@ pub mod Agreement
 pub mod Start
 pub mod Text
 pub mod LiveText
-pub mod Explanation
 pub mod Capacity
 pub mod Output
 pub mod Written
-pub mod Explained

@@ -4,32 +4,36 @@ use Rattle.std.specs.Prelude.{ℕ, ◌||◌, ◌==◌, Bool, List, length, Optio
 use Rattle.std.specs.List.{list_all}
 use Rattle.serde_json.specs.Data.{Data, Items, no_items, item}
 use Rattle.serde_json.specs.Find.{as_array, as_str}
-use Rattle.check_objects.specs.JsonTree.{tree_of}
+use Rattle.check_objects.specs.JsonTree.{◌>=>◌, tree_of}
 pub use Rattle.setup_model.specs.Agreement.{◌>>=◌}
 use Rattle.nagsched_protocol.specs.declared.refusal.LineFault.{LineFault}
 use Rattle.nagsched_protocol.specs.declared.refusal.LineFault.TheVariants as fault
-use Rattle.nagsched_protocol.specs.declared.refusal.LineShape.TheVariants as shape
-use Rattle.nagsched_protocol.specs.Refused.{Refused, line_refused}
+use Rattle.nagsched_protocol.specs.declared.refusal.InputRefusal.{InputRefusal}
+use Rattle.nagsched_protocol.specs.declared.refusal.InputRefusal.TheVariants as refusal
 
 -- a line that is skipped: only spaces, tabs and carriage returns, or nothing
 abbrev pub is_blank : List ℕ → Bool
 is_blank line = list_all (λ b. b == 32 || b == 9 || b == 13) line
 
--- a fault as the refusal of the line with number n, whose tree this is
-abbrev pub at_line : {A : Type 0} → ℕ → Data → Result A LineFault → Result A Refused
-at_line n d (Ok x) = Ok x
-at_line n d (Err e) = Err (line_refused e n (Some d))
+-- the word of an array, and the members after it
+abbrev pub word_and_members_in : Items → Option (List ℕ × Items)
+word_and_members_in no_items = None
+word_and_members_in (item word members) = as_str word >=> λ w. Some (w, members)
 
--- the command that the items of an array are, by the meaning of words with members
-abbrev pub command_in_items : {K : Type 0} → (List ℕ → Items → Result K LineFault) → Items → Result K LineFault
-command_in_items meaning no_items = Err (fault.Shape shape.Empty)
-command_in_items meaning (item word members) = ok_or (as_str word) (fault.Shape shape.NoWord) >>= λ w. meaning w members
+-- the same for a tree that is an array
+abbrev pub word_and_members : Data → Option (List ℕ × Items)
+word_and_members d = as_array d >=> word_and_members_in
 
--- the command that a tree is
+-- a fault as the refusal of the line with number n
+abbrev pub at_line : {A : Type 0} → ℕ → Result A LineFault → Result A InputRefusal
+at_line n (Ok x) = Ok x
+at_line n (Err e) = Err (refusal.Line e n)
+
+-- the command that a tree is, by the meaning of words with members
 abbrev pub command_in : {K : Type 0} → (List ℕ → Items → Result K LineFault) → Data → Result K LineFault
-command_in meaning d = ok_or (as_array d) (fault.Shape shape.NotAnArray) >>= command_in_items meaning
+command_in meaning d = ok_or (word_and_members d) fault.Shape >>= λ p. meaning p.0 p.1
 
 -- the command of the line with number n, or its first fault: more than 4,096 bytes, then not JSON, then those of the command
-unfoldable pub command_of : {K : Type 0} → (List ℕ → Items → Result K LineFault) → ℕ → List ℕ → Result K Refused
-command_of meaning n line = if nat_lt 4096 (length line) then Err (line_refused fault.TooLong n None)
-    else (ok_or (tree_of line) (line_refused fault.NotJson n None) >>= λ d. at_line n d (command_in meaning d))
+unfoldable pub command_of : {K : Type 0} → (List ℕ → Items → Result K LineFault) → ℕ → List ℕ → Result K InputRefusal
+command_of meaning n line = if nat_lt 4096 (length line) then Err (refusal.Line fault.TooLong n)
+    else (ok_or (tree_of line) (refusal.Line fault.NotJson n) >>= λ d. at_line n (command_in meaning d))

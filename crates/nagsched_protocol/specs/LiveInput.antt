@@ -4,7 +4,7 @@ use Rattle.nagsched_protocol.specs.declared.line_reader.TheConstants.{READ_BYTES
 use Rattle.nagsched_protocol.specs.Input.{first_line_of}
 use Rattle.serde_json.specs.Data.{Items}
 use Rattle.setup_model.specs.Agreement.{◌>>=◌}
-use Rattle.nagsched_protocol.specs.Refused.{Refused}
+use Rattle.nagsched_protocol.specs.declared.refusal.InputRefusal.{InputRefusal}
 use Rattle.nagsched_protocol.specs.declared.refusal.LineFault.{LineFault}
 use Rattle.nagsched_protocol.specs.Line.{command_of, is_blank}
 
@@ -29,7 +29,7 @@ abbrev pub prefix_of : ℕ → List ℕ → LinePrefix
 prefix_of most line = record { most = most; bytes = take most line; blank = is_blank line }
 
 -- the meaning of the line with number n: nothing if it is blank, otherwise a command, or why it is refused
-abbrev pub line_meaning_by : {K : Type 0} → (List ℕ → Items → Result K LineFault) → ℕ → List ℕ → Result (Option K) Refused
+abbrev pub line_meaning_by : {K : Type 0} → (List ℕ → Items → Result K LineFault) → ℕ → List ℕ → Result (Option K) InputRefusal
 line_meaning_by meaning n line = if is_blank line then Ok None else (command_of meaning n line >>= λ command. Ok (Some command))
 
 -- The first line of these bytes was taken, with its line feed, and at most `most` bytes of it are kept. The fields are the kept part of the line, the

@@ -6,7 +6,7 @@ use Rattle.check_saved_state.specs.Saved.{Saved}
 use Rattle.check_saved_state.specs.Text.{saved_of_text}
 use Rattle.check_sched.specs.State.{State}
 use Rattle.nagsched_protocol.specs.declared.command.RunCommand.{RunCommand}
-use Rattle.nagsched_protocol.specs.Refused.{Refused}
+use Rattle.nagsched_protocol.specs.declared.refusal.InputRefusal.{InputRefusal}
 use Rattle.nagsched_protocol.specs.declared.start.Start.{Start}
 use Rattle.nagsched_protocol.specs.declared.start.Start.TheVariants as start
 use Rattle.nagsched_protocol.specs.Command.{command_by}
@@ -16,19 +16,19 @@ use Rattle.nagsched_protocol.specs.Script.{Beginning, beginning_of}
 use Rattle.nagsched_protocol.specs.Text.{answer_line, refusal_line, state_after_command}
 
 -- the answer to a line: nothing to a blank one, the line of the answer to a command, or the line of the refusal
-abbrev pub line_answer : State → Result (Option RunCommand) Refused → List ℕ
+abbrev pub line_answer : State → Result (Option RunCommand) InputRefusal → List ℕ
 line_answer s (Ok None) = []
 line_answer s (Ok (Some command)) = answer_line s command
-line_answer s (Err refused) = refusal_line refused.why
+line_answer s (Err why) = refusal_line why
 
 -- the state after that line: only calls change it
-abbrev pub state_after_line : State → Result (Option RunCommand) Refused → State
+abbrev pub state_after_line : State → Result (Option RunCommand) InputRefusal → State
 state_after_line s (Ok None) = s
 state_after_line s (Ok (Some command)) = state_after_command s command
-state_after_line s (Err refused) = s
+state_after_line s (Err why) = s
 
 -- the meaning of the line with number n for a scheduler in this state
-abbrev pub line_meaning : State → ℕ → List ℕ → Result (Option RunCommand) Refused
+abbrev pub line_meaning : State → ℕ → List ℕ → Result (Option RunCommand) InputRefusal
 line_meaning s n line = line_meaning_by (command_by s.setup) n line
 
 -- the answers to these lines, one after another, from this state on; the first line has the number n
@@ -37,9 +37,9 @@ answers_from s n [] = []
 answers_from s n (line ∷ lines) = line_answer s (line_meaning s n line) ++ answers_from (state_after_line s (line_meaning s n line)) (n + 1) lines
 
 -- the answers to the lines of a beginning, or the line of its refusal
-abbrev pub answers_over : Result Beginning Refused → List ℕ
+abbrev pub answers_over : Result Beginning InputRefusal → List ℕ
 answers_over (Ok b) = answers_from b.state b.number (lines_of b.rest)
-answers_over (Err refused) = refusal_line refused.why
+answers_over (Err why) = refusal_line why
 
 -- The text that a conversation writes on the input. If its setup or its saved state is refused, it is the line of this refusal. Otherwise it is, for
 -- each later line in order, nothing, the line of its refusal or the line of its answer.

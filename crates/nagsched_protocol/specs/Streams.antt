@@ -4,7 +4,7 @@ use Rattle.std.specs.Io.KnownBytes.{Consumes}
 use Rattle.nagsched_protocol.specs.declared.input.TheConstants.{MAX_READ_BYTES}
 use Rattle.nagsched_protocol.specs.declared.outcome.Outcome.{Outcome}
 use Rattle.nagsched_protocol.specs.declared.outcome.Outcome.TheVariants as outcome
-use Rattle.nagsched_protocol.specs.Refused.{Refused}
+use Rattle.nagsched_protocol.specs.declared.refusal.InputRefusal.{InputRefusal}
 
 -- None marks a field that isn't known
 pub record Streams : Type 0 where
@@ -28,6 +28,6 @@ abbrev pub IsInput : Option (List ℕ) → List ℕ → Type 0
 IsInput had input = IfSome had (λ bytes. input ≡ bytes)
 
 -- the outcome of a reading: a run, or a refusal
-abbrev pub outcome_by : {A : Type 0} → Result A Refused → Outcome
+abbrev pub outcome_by : {A : Type 0} → Result A InputRefusal → Outcome
 outcome_by (Ok x) = outcome.Ran
 outcome_by (Err r) = outcome.Refused

@@ -27,7 +27,6 @@ use Rattle.nagsched_protocol.specs.declared.command.RunCommand.TheVariants as co
 use Rattle.nagsched_protocol.specs.declared.refusal.LineFault.{LineFault}
 use Rattle.nagsched_protocol.specs.declared.refusal.LineFault.TheVariants as fault
 use Rattle.nagsched_protocol.specs.declared.refusal.InputRefusal.{InputRefusal}
-use Rattle.nagsched_protocol.specs.Refused.{Refused}
 use Rattle.nagsched_protocol.specs.declared.refusal.InputRefusal.TheVariants as refusal
 use Rattle.nagsched_protocol.specs.declared.start.Start.{Start}
 use Rattle.nagsched_protocol.specs.Script.{Script, script_of}
@@ -149,8 +148,8 @@ saved_fault_text saved.Memory = codes "Memory"
 abbrev pub line_fault_text : LineFault → List ℕ
 line_fault_text fault.TooLong = codes "S1 TooLong"
 line_fault_text fault.NotJson = codes "S2 NotJson"
-line_fault_text (fault.Shape why) = codes "S3 Shape"
-line_fault_text (fault.Code number) = codes "S4 Code"
+line_fault_text fault.Shape = codes "S3 Shape"
+line_fault_text fault.Code = codes "S4 Code"
 line_fault_text fault.UnknownName = codes "S5 UnknownName"
 
 -- why an input is refused, and at which place
@@ -204,9 +203,9 @@ text_from s [] = []
 text_from s (c ∷ cs) = answer_line s c ++ text_from (state_after_command s c) cs
 
 -- the text of a script, or of the refusal of its input
-abbrev pub script_text : Result Script Refused → List ℕ
+abbrev pub script_text : Result Script InputRefusal → List ℕ
 script_text (Ok s) = text_from s.state s.commands
-script_text (Err r) = refusal_line r.why
+script_text (Err r) = refusal_line r
 
 -- The text that a run writes on the input, by how its scheduler starts. It is the line of the input's first refusal, or the lines of the answers to its
 -- commands, in order.

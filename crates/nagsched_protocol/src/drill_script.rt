@@ -38,7 +38,7 @@ impl DrillScript {
         ensures { IsExpectedResult drill_script result (drill_script_of input.now) }
     {
         if input.len() > MAX_INPUT_BYTES {
-            return Err(line_refusal(LineFault::TooLong, 0, None));
+            return Err(line_refusal(LineFault::TooLong, 0));
         }
         let (document, rest) = split_line(input);
         let setup = read_setup(alloc, document)?;

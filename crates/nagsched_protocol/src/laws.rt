@@ -11,7 +11,7 @@ ghost use Rattle.nagsched_protocol.specs.Script.{Beginning, Script, beginning_of
 ghost use Rattle.nagsched_protocol.specs.declared.input.TheConstants.{MAX_READ_BYTES};
 ghost use Rattle.nagsched_protocol.specs.declared.line.TheConstants.{MAX_LINE_BYTES};
 ghost use Rattle.nagsched_protocol.specs.declared.line_reader.TheConstants.{READ_BYTES, LINE_PREFIX_BYTES, SAVED_PREFIX_BYTES, SETUP_PREFIX_BYTES};
-ghost use Rattle.nagsched_protocol.specs.Refused.{Refused};
+ghost use Rattle.nagsched_protocol.specs.declared.refusal.InputRefusal.{InputRefusal};
 ghost use Rattle.nagsched_protocol.specs.declared.script.TheConstants.{MAX_INPUT_BYTES};
 ghost use Rattle.nagsched_protocol.specs.declared.start.Start.{Start};
 ghost use Rattle.nagsched_protocol.specs.declared.start.Start.TheVariants.{Resumed};
@@ -62,13 +62,13 @@ pub fn live_output_only_grows()
 /// with its line feed, except for the last one's.
 pub fn live_skips_refused_lines()
     ensures { (how : Start) → (beginning : Beginning) → (front line back : List ℕ)
-        → (why : Refused) → HasStart how (rest_after_line (front ++ 10 ∷ []))
+        → (why : InputRefusal) → HasStart how (rest_after_line (front ++ 10 ∷ []))
         → beginning_of how (front ++ 10 ∷ []) ≡ Ok beginning → has_feed line ≡ false
         → line_meaning_by (command_by beginning.state.setup) (length (lines_of (front ++ 10 ∷ [])) + 1) line
         ≡ Err why
         → (before behind : List ℕ)
         × (live_text how ((front ++ 10 ∷ []) ++ (line ++ 10 ∷ back))
-        ≡ before ++ (refusal_line why.why ++ behind))
+        ≡ before ++ (refusal_line why ++ behind))
         × (live_text how ((front ++ 10 ∷ []) ++ (10 ∷ back)) ≡ before ++ behind) }
 {}
 

@@ -12,15 +12,14 @@
 //! - `command`: the vocabulary of `run`.
 //! - `drill_command`: the vocabulary of `drill`. `drill_script` puts its commands together.
 //! - `start`: how a scheduler starts; it also starts one.
-//! - `refusal`: the errors of an input, with what was found.
+//! - `refusal`: the errors of an input.
 //! - `outcome`: how a job ends. `drive_error`: why it ends early.
 //! - `line_reader`: the lines of a conversation.
 //! - `live_error`: why a conversation ends early.
 //!
 //! The modules of writing:
 //!
-//! - `text`: the text of each line, with one definition for all subcommands. `refusal_text` has the refusals,
-//!   and `explanation` the sentences that explain them.
+//! - `text`: the text of each line, with one definition for all subcommands. `refusal_text` has the refusals.
 //! - `listing`: the lines of all objects.
 //! - `output`: gives bytes to a writer, all of them or up to a fault.
 //! - `laws`: laws of the text of a conversation, and the limits of an input and of a reply.
@@ -29,7 +28,6 @@ mod command;
 mod drill_command;
 mod drill_script;
 mod drive_error;
-mod explanation;
 mod flat_line;
 mod input;
 pub mod laws;
@@ -50,22 +48,17 @@ pub use command::RunCommand;
 pub use drill_command::DrillCommand;
 pub use drill_script::DrillScript;
 pub use drive_error::DriveError;
-pub use explanation::explain_refusal;
 pub use input::{Lines, MAX_READ_BYTES, read_at_most, split_line};
-pub use line::Command;
+pub use line::{Command, ScriptLine};
 pub use line_reader::{
     InputBuffer, LINE_PREFIX_BYTES, LineBuffer, READ_BYTES, SAVED_PREFIX_BYTES, SETUP_PREFIX_BYTES,
     read_buffered, take_document,
 };
 pub use live_error::LiveError;
 pub use outcome::{Ended, Outcome};
-pub use output::{
-    flush, print_text, write_explanation, write_list, write_refusal, write_saved, write_text,
-};
+pub use output::{flush, print_text, write_list, write_refusal, write_saved, write_text};
 pub use reader::{ReaderFault, ask_reader};
-pub use refusal::{
-    CommandError, InputRefusal, LineFault, LineShape, Refused, ScriptError, ValueKind, Vocabulary,
-};
+pub use refusal::{InputRefusal, LineFault, ScriptError};
 pub use refusal_text::push_refusal;
 pub use script::{MAX_INPUT_BYTES, Script, read_saved, read_setup};
 pub use start::{Start, moment_of, open, resume};

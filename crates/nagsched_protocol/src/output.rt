@@ -1,18 +1,15 @@
-//! Gives bytes to a writer: a text, the line of a refusal, of its explanation or of a saved state, the lines of all objects,
+//! Gives bytes to a writer: a text, the line of a refusal or of a saved state, the lines of all objects,
 //! and the flush at the end. The modules `text`, `refusal_text` and `listing` make the lines.
 
 ghost use Rattle.std.specs.Prelude.{OnOk, OnErr, IsOkUnless};
 ghost use Rattle.std.specs.Io.KnownBytes.{Appends, Keeps};
 ghost use Rattle.nagsched_protocol.specs.Output.{WroteFront};
 ghost use Rattle.nagsched_protocol.specs.Text.{list_lines, refusal_line, saved_line};
-ghost use Rattle.nagsched_protocol.specs.Explained.{IsExplained};
-ghost use Rattle.nagsched_protocol.specs.Refused.{refused_of};
 ghost use Rattle.nagsched_protocol.specs.Written.{IsLineWritten};
 
 use crate::drive_error::DriveError;
-use crate::explanation::explain_refusal;
 use crate::listing::list_lines;
-use crate::refusal::{InputRefusal, Refused};
+use crate::refusal::InputRefusal;
 use crate::refusal_text::push_refusal;
 use crate::text::saved_line;
 use check_sched::Sched;
@@ -55,22 +52,6 @@ pub fn write_refusal<W: Write>(
 {
     let mut line = String::new(alloc);
     push_refusal(&mut line, refusal)?;
-    write_text(writer, line.as_bytes())
-}
-
-/// Writes the sentence that explains a refusal, as a line. Nothing is flushed. The error is `Write`, and a
-/// prefix of the line was written then, or `Memory`, and nothing was written.
-#[tactic(auto, using(crate::proofs::WrittenLemmas::explained, crate::proofs::WrittenLemmas::unexplained))]
-pub fn write_explanation<W: Write>(
-    alloc: Global,
-    refused: &Refused,
-    writer: &mut W,
-) -> Result<(), DriveError>
-    ensures { IsExplained (refused_of refused.now) result
-        (W.contents writer.old) (W.contents writer.new) }
-{
-    let mut line = explain_refusal(alloc, refused)?;
-    line.push_str("\n")?;
     write_text(writer, line.as_bytes())
 }
 

@@ -54,8 +54,8 @@ fn line_fault_text(fault: LineFault) -> &'static str
     match fault {
         LineFault::TooLong => "S1 TooLong",
         LineFault::NotJson => "S2 NotJson",
-        LineFault::Shape(_) => "S3 Shape",
-        LineFault::Code(_) => "S4 Code",
+        LineFault::Shape => "S3 Shape",
+        LineFault::Code => "S4 Code",
         LineFault::UnknownName => "S5 UnknownName",
     }
 }

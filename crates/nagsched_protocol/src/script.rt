@@ -43,7 +43,7 @@ impl Script {
         ensures { IsExpectedResult script result (script_of start input.now) }
     {
         if input.len() > MAX_INPUT_BYTES {
-            return Err(line_refusal(LineFault::TooLong, 0, None));
+            return Err(line_refusal(LineFault::TooLong, 0));
         }
         let (document, rest) = split_line(input);
         let setup = read_setup(alloc, document)?;
@@ -91,7 +91,7 @@ pub fn read_setup(alloc: Global, document: &[u8]) -> Result<Setup, ScriptError>
     match Setup::read(alloc, document) {
         Ok(setup) => Ok(setup),
         Err(LoadError::Memory) => Err(ScriptError::Memory),
-        Err(e) => Err(ScriptError::without_tree(InputRefusal::Setup(e))),
+        Err(e) => Err(ScriptError::Refused(InputRefusal::Setup(e))),
     }
 }
 
@@ -102,7 +102,7 @@ pub fn read_saved(alloc: Global, text: &[u8]) -> Result<Saved, ScriptError>
     match Saved::read(alloc, text) {
         Ok(saved) => Ok(saved),
         Err(SavedFault::Memory) => Err(ScriptError::Memory),
-        Err(fault) => Err(ScriptError::without_tree(InputRefusal::Saved(fault))),
+        Err(fault) => Err(ScriptError::Refused(InputRefusal::Saved(fault))),
     }
 }
 

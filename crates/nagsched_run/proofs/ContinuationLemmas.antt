@@ -18,7 +18,7 @@ use Rattle.nagsched_protocol.specs.declared.drive_error.DriveError.{DriveError}
 use Rattle.nagsched_protocol.specs.declared.live_error.LiveError.{LiveError}
 use Rattle.nagsched_protocol.specs.declared.live_error.LiveError.TheVariants as live
 use Rattle.nagsched_protocol.specs.declared.line_reader.TheConstants.{SAVED_PREFIX_BYTES, SETUP_PREFIX_BYTES}
-use Rattle.nagsched_protocol.specs.Refused.{Refused, without_tree}
+use Rattle.nagsched_protocol.specs.declared.refusal.InputRefusal.{InputRefusal}
 use Rattle.nagsched_protocol.specs.declared.refusal.InputRefusal.TheVariants as refusal
 use Rattle.nagsched_protocol.specs.declared.refusal.ScriptError.{ScriptError}
 use Rattle.nagsched_protocol.specs.LiveError.{IsSpent, IsWriteResult, drive_error_of, drive_result_of}
@@ -75,10 +75,10 @@ saved_is (Ok other) saved e = cc
 saved_is (Err f) saved e = cc
 
 -- what a scheduler starts with that continues from this saved state, or its refusal
-abbrev pub from_saved : Option ℕ → Configuration → List ℕ → Result Saved Refused → Result Beginning Refused
+abbrev pub from_saved : Option ℕ → Configuration → List ℕ → Result Saved InputRefusal → Result Beginning InputRefusal
 from_saved moment c bytes r = r >>= λ saved. Ok (record { state = state_after_resume_at c saved moment; number = 3; rest = rest_after_line bytes })
 
-over_refused : (moment : Option ℕ) (c : Configuration) (bytes : List ℕ) (why : Refused) → saved_at_start bytes ≡ Err why
+over_refused : (moment : Option ℕ) (c : Configuration) (bytes : List ℕ) (why : InputRefusal) → saved_at_start bytes ≡ Err why
     → beginning_over (start.Resumed moment) c bytes ≡ Err why
 over_refused moment c bytes why s = ap (from_saved moment c bytes) s
 
@@ -175,13 +175,13 @@ gone_opened moment c true hand had left held holds r end ran unread lines =
     record { coming = t.0; is_input = t.1; short = λ f. cc; outcome_is = ran; written = t.3; read = t.2; fault = t.4 }
 
 -- an input by which what was saved is refused
-pub record Refuses (may_follow : Bool) (hand : List ℕ) (had left : Option (List ℕ)) (why : Refused) : Type 0 where
+pub record Refuses (may_follow : Bool) (hand : List ℕ) (had left : Option (List ℕ)) (why : InputRefusal) : Type 0 where
   pub coming : List ℕ
   pub is_input : IsInput had coming
   pub short : may_follow ≡ false → coming ≡ []
   pub refused : saved_at_start (hand ++ coming) ≡ Err why
 
-refuses_on : (may_follow : Bool) (hand part : List ℕ) (had left : Option (List ℕ)) (why : Refused) → Consumes had left part
+refuses_on : (may_follow : Bool) (hand part : List ℕ) (had left : Option (List ℕ)) (why : InputRefusal) → Consumes had left part
     → (may_follow ≡ false → ⊥) → saved_at_start ((hand ++ part) ++ rest_of left) ≡ Err why → Refuses may_follow hand had left why
 refuses_on may_follow hand part had left why read never s = record {
   coming = part ++ rest_of left;
@@ -190,7 +190,7 @@ refuses_on may_follow hand part had left why read never s = record {
   refused = ap saved_at_start (sym (append_assoc hand part (rest_of left))) ∙ s;
 }
 
-refuses_by : (may_follow : Bool) (hand part : List ℕ) (had left : Option (List ℕ)) (why : Refused)
+refuses_by : (may_follow : Bool) (hand part : List ℕ) (had left : Option (List ℕ)) (why : InputRefusal)
     → saved_at_start (hand ++ part) ≡ Err why → Consumes had left part → (may_follow ≡ false → part ≡ [])
     → (may_follow ≡ false → (hand ≡ []) × IsAtEnd had) → has_feed (hand ++ part) ≡ false
     → IsAtEnd left ⊎ (SAVED_PREFIX_BYTES ≤ length (hand ++ part)) → Refuses may_follow hand had left why
@@ -200,7 +200,7 @@ refuses_by may_follow hand part had left why s read none end free (inr long) =
     refuses_on may_follow hand part had left why read (never_long may_follow hand part had none end long)
     (long_stays (hand ++ part) (rest_of left) free long ∙ s)
 
-refuses : (may_follow follow : Bool) (hand part : List ℕ) (had left : Option (List ℕ)) (why : Refused)
+refuses : (may_follow follow : Bool) (hand part : List ℕ) (had left : Option (List ℕ)) (why : InputRefusal)
     → saved_at_start (hand ++ part) ≡ Err why → Consumes had left part → (may_follow ≡ false → part ≡ [])
     → (may_follow ≡ false → (hand ≡ []) × IsAtEnd had) → follow ≡ has_feed (hand ++ part)
     → (follow ≡ false → IsAtEnd left ⊎ (SAVED_PREFIX_BYTES ≤ length (hand ++ part))) → Refuses may_follow hand had left why
@@ -211,13 +211,13 @@ refuses may_follow false hand part had left why s read none end feed ended =
     refuses_by may_follow hand part had left why s read none end (sym feed) (ended refl)
 
 gone_refused_by : (moment : Option ℕ) (c : Configuration) (may_follow : Bool) (hand part : List ℕ) (had left held holds : Option (List ℕ))
-    (why : Refused) (wrote : Result Outcome DriveError) (r : Result Outcome LiveError)
+    (why : InputRefusal) (wrote : Result Outcome DriveError) (r : Result Outcome LiveError)
     → Refuses may_follow hand had left why → Consumes had left part → IsBoundedReading SAVED_PREFIX_BYTES (hand ++ part)
-    → IfOk wrote (λ o. o ≡ outcome.Refused) → OnOk wrote (Appends held holds (refusal_line why.why))
-    → IfErr wrote (λ e. LeavesText e held holds (refusal_line why.why)) → IsWriteResult r wrote
+    → IfOk wrote (λ o. o ≡ outcome.Refused) → OnOk wrote (Appends held holds (refusal_line why))
+    → IfErr wrote (λ e. LeavesText e held holds (refusal_line why)) → IsWriteResult r wrote
     → IsContinuation (start.Resumed moment) c may_follow hand r (streams had left held holds)
 gone_refused_by moment c may_follow hand part had left held holds why wrote r z read soon refused written fault w =
-    let line = refusal_line why.why in
+    let line = refusal_line why in
     let over = sym (over_refused moment c (hand ++ z.coming) why z.refused) in
     let text = ap answers_over over in
     record {
@@ -232,12 +232,12 @@ gone_refused_by moment c may_follow hand part had left held holds why wrote r z 
 
 -- what is shown of the refusal of what was saved is what is shown of all behind the setup
 pub gone_refused : (moment : Option ℕ) (c : Configuration) (may_follow follow : Bool) (hand part : List ℕ) (had left held holds : Option (List ℕ))
-    (why : Refused) (wrote : Result Outcome DriveError) (r : Result Outcome LiveError)
+    (why : InputRefusal) (wrote : Result Outcome DriveError) (r : Result Outcome LiveError)
     → saved_at_start (hand ++ part) ≡ Err why → Consumes had left part → (may_follow ≡ false → part ≡ [])
     → IsBoundedReading SAVED_PREFIX_BYTES (hand ++ part) → (may_follow ≡ false → (hand ≡ []) × IsAtEnd had) → follow ≡ has_feed (hand ++ part)
     → (follow ≡ false → IsAtEnd left ⊎ (SAVED_PREFIX_BYTES ≤ length (hand ++ part)))
-    → IfOk wrote (λ o. o ≡ outcome.Refused) → OnOk wrote (Appends held holds (refusal_line why.why))
-    → IfErr wrote (λ e. LeavesText e held holds (refusal_line why.why)) → IsWriteResult r wrote
+    → IfOk wrote (λ o. o ≡ outcome.Refused) → OnOk wrote (Appends held holds (refusal_line why))
+    → IfErr wrote (λ e. LeavesText e held holds (refusal_line why)) → IsWriteResult r wrote
     → IsContinuation (start.Resumed moment) c may_follow hand r (streams had left held holds)
 gone_refused moment c may_follow follow hand part had left held holds why wrote r s read none soon end feed ended refused written fault w =
     gone_refused_by moment c may_follow hand part had left held holds why wrote r
@@ -322,7 +322,7 @@ soon_behind bytes_read more true feed soon = rw (behind_stays bytes_read more (s
 soon_behind bytes_read more false feed soon =
     rw (behind_on bytes_read more (sym feed)) (behind_soon SAVED_PREFIX_BYTES more (omega arith) (rw (behind_none bytes_read (sym feed)) at soon))
 
-read_behind : (r : Result Beginning Refused) (had mid left : Option (List ℕ)) (bytes_read coming : List ℕ) (whole : Bool) → whole ≡ has_feed bytes_read
+read_behind : (r : Result Beginning InputRefusal) (had mid left : Option (List ℕ)) (bytes_read coming : List ℕ) (whole : Bool) → whole ≡ has_feed bytes_read
     → Consumes had mid bytes_read → ReadOver (λ more. rest_after_line bytes_read ++ more) r mid left coming → ReadOver rest_after_line r had left (bytes_read ++ coming)
 read_behind (Ok b) had mid left bytes_read coming whole feed read more = Consumes-then had mid left bytes_read coming read more
 read_behind (Err e) had mid left bytes_read coming whole feed read more =
@@ -333,7 +333,7 @@ live_over : (how : Start) (c : Configuration) (input behind : List ℕ) → setu
     → beginning_of how input ≡ beginning_over how c behind
 live_over how c input behind s b = ap (λ r. with_setup_refusal r >>= λ d. beginning_over how d (rest_after_line input)) s ∙ ap (beginning_over how c) b
 
-text_over : (how : Start) (input : List ℕ) (r : Result Beginning Refused) → beginning_of how input ≡ r → live_text how input ≡ answers_over r
+text_over : (how : Start) (input : List ℕ) (r : Result Beginning InputRefusal) → beginning_of how input ≡ r → live_text how input ≡ answers_over r
 unfolding live_text
 text_over how input r e = ap answers_over e
 
@@ -375,7 +375,7 @@ whole_gone how c bytes_read had mid left held holds whole (Err e) s feed read w 
 -- ---- a refused setup
 
 begins_refused : (how : Start) (input : List ℕ) (e : LoadError) → setup_of (first_line_of input) ≡ Err e
-    → beginning_of how input ≡ Err (without_tree (refusal.Setup e))
+    → beginning_of how input ≡ Err (refusal.Setup e)
 begins_refused how input e s = ap (λ r. with_setup_refusal r >>= λ d. beginning_over how d (rest_after_line input)) s
 
 refusal_read : (how : Start) (input bytes_read : List ℕ) (e : LoadError) (had left : Option (List ℕ)) → setup_of (first_line_of input) ≡ Err e
@@ -383,11 +383,11 @@ refusal_read : (how : Start) (input bytes_read : List ℕ) (e : LoadError) (had 
 refusal_read how input bytes_read e had left s read soon = rw s (bytes_read, read, soon)
 
 -- what is shown of a setup's refusal is what is shown of the whole
-pub setup_refusal : (how : Start) (bytes_read : List ℕ) (had left held holds : Option (List ℕ)) (why : Refused) (whole : Bool)
+pub setup_refusal : (how : Start) (bytes_read : List ℕ) (had left held holds : Option (List ℕ)) (why : InputRefusal) (whole : Bool)
     (r : Result Outcome DriveError)
     → with_setup_refusal (setup_of (first_line_of bytes_read)) ≡ Err why → Consumes had left bytes_read → IsBoundedReading SETUP_PREFIX_BYTES bytes_read → whole ≡ has_feed bytes_read
     → (whole ≡ false → IsAtEnd left ⊎ (SETUP_PREFIX_BYTES ≤ length bytes_read)) → IfOk r (λ o. o ≡ outcome.Refused)
-    → OnOk r (Appends held holds (refusal_line why.why)) → IfErr r (λ e. LeavesText e held holds (refusal_line why.why))
+    → OnOk r (Appends held holds (refusal_line why)) → IfErr r (λ e. LeavesText e held holds (refusal_line why))
     → ConversationEnded how r (streams had left held holds)
 setup_refusal how bytes_read had left held holds why whole (Ok o) s read soon feed end refused wrote f =
     let no = setup_refused (setup_of (first_line_of bytes_read)) why s in
@@ -398,7 +398,7 @@ setup_refusal how bytes_read had left held holds why whole (Ok o) s read soon fe
       input = input;
       is_input = input_on had left bytes_read (rest_of left) read (rest_input left);
       outcome_is = refused ∙ sym (ap outcome_by over);
-      written = subst (Appends held holds) (ap (λ (r : Refused). refusal_line r.why) no.2 ∙ sym (text_over how input _ over)) wrote;
+      written = subst (Appends held holds) (ap refusal_line no.2 ∙ sym (text_over how input _ over)) wrote;
       read = refusal_read how input bytes_read no.0 had left setup read soon;
       fault = tt;
     }
@@ -408,7 +408,7 @@ setup_refusal how bytes_read had left held holds why whole (Err e) s read soon f
     let over = begins_refused how input no.0 (refused_stays bytes_read left whole feed end ∙ no.1) in
     live_failed how e had left held holds input
     (input_on had left bytes_read (rest_of left) read (rest_input left))
-    (subst (LeavesText e held holds) (ap (λ (r : Refused). refusal_line r.why) no.2 ∙ sym (text_over how input _ over)) f)
+    (subst (LeavesText e held holds) (ap refusal_line no.2 ∙ sym (text_over how input _ over)) f)
 
 -- ---- a loop that is spent
 

@@ -24,7 +24,8 @@ use Rattle.check_sched.proofs.SavedLaws.{resumed_same}
 use Rattle.check_sched.proofs.StateLaws.{step_is_state}
 use Rattle.nagsched_protocol.specs.declared.command.RunCommand.{RunCommand}
 use Rattle.nagsched_protocol.specs.declared.command.RunCommand.TheVariants as command
-use Rattle.nagsched_protocol.specs.Refused.{Refused, line_refused}
+use Rattle.nagsched_protocol.specs.declared.refusal.InputRefusal.{InputRefusal}
+use Rattle.nagsched_protocol.specs.declared.refusal.InputRefusal.TheVariants as refusal
 use Rattle.nagsched_protocol.specs.declared.refusal.LineFault.{LineFault}
 use Rattle.nagsched_protocol.specs.declared.refusal.LineFault.TheVariants as fault
 use Rattle.nagsched_protocol.specs.Command.{command_by}
@@ -49,16 +50,16 @@ use Rattle.nagsched_run.proofs.ReadSetupLemmas.{setup_by}
 
 -- ---- commands, whatever the numbers of their lines
 
-at_again : {K : Type 0} (r : Result K LineFault) (n k : ℕ) (d : Data) (x : K) → at_line n d r ≡ Ok x → at_line k d r ≡ Ok x
-at_again (Ok y) n k d x e = e
-at_again (Err f) n k d x e = cc
+at_again : {K : Type 0} (r : Result K LineFault) (n k : ℕ) (x : K) → at_line n r ≡ Ok x → at_line k r ≡ Ok x
+at_again (Ok y) n k x e = e
+at_again (Err f) n k x e = cc
 
 again_by : {K : Type 0} (long : Bool) (tree : Option Data) (made : Data → Result K LineFault) (n k : ℕ) (x : K)
-    → cond long (Err (line_refused fault.TooLong n None)) (ok_or tree (line_refused fault.NotJson n None) >>= λ d. at_line n d (made d)) ≡ Ok x
-    → cond long (Err (line_refused fault.TooLong k None)) (ok_or tree (line_refused fault.NotJson k None) >>= λ d. at_line k d (made d)) ≡ Ok x
+    → cond long (Err (refusal.Line fault.TooLong n)) (ok_or tree (refusal.Line fault.NotJson n) >>= λ d. at_line n (made d)) ≡ Ok x
+    → cond long (Err (refusal.Line fault.TooLong k)) (ok_or tree (refusal.Line fault.NotJson k) >>= λ d. at_line k (made d)) ≡ Ok x
 again_by true tree made n k x e = cc
 again_by false None made n k x e = cc
-again_by false (Some d) made n k x e = at_again (made d) n k d x e
+again_by false (Some d) made n k x e = at_again (made d) n k x e
 
 command_again : {K : Type 0} (meaning : List ℕ → Items → Result K LineFault) (n k : ℕ) (line : List ℕ) (x : K)
     → command_of meaning n line ≡ Ok x → command_of meaning k line ≡ Ok x
@@ -66,10 +67,10 @@ unfolding command_of
 command_again meaning n k line x e = again_by (nat_lt 4096 (length line)) (tree_of line) (command_in meaning) n k x e
 
 -- the commands that go on with a first one
-abbrev goes_on : {K : Type 0} → Result K Refused → Result (List K) Refused → Result (List K) Refused
+abbrev goes_on : {K : Type 0} → Result K InputRefusal → Result (List K) InputRefusal → Result (List K) InputRefusal
 goes_on r rest = r >>= λ first. (rest >>= λ more. Ok (first ∷ more))
 
-bind_parts : {K : Type 0} (r : Result K Refused) (rest : Result (List K) Refused) (b : List K) → goes_on r rest ≡ Ok b
+bind_parts : {K : Type 0} (r : Result K InputRefusal) (rest : Result (List K) InputRefusal) (b : List K) → goes_on r rest ≡ Ok b
     → (x : K) × (m : List K) × (r ≡ Ok x) × (rest ≡ Ok m) × (x ∷ m ≡ b)
 bind_parts (Ok x) (Ok m) b e = (x, m, refl, refl, cc)
 bind_parts (Ok x) (Err f) b e = cc
@@ -187,13 +188,13 @@ begins_with how document bytes free =
     (first_on document (10 ∷ bytes) free ∙ append-nil document)
     ∙ ap (λ l. with_setup_refusal (setup_of document) >>= λ c. beginning_over how c l) (behind_on document (10 ∷ bytes) free)
 
-over_made : (s : State) (lines : List (List ℕ)) (commands : Result (List RunCommand) Refused) (script : Script)
+over_made : (s : State) (lines : List (List ℕ)) (commands : Result (List RunCommand) InputRefusal) (script : Script)
     → commands_from (command_by s.setup) 2 lines ≡ commands → (commands >>= λ all. Ok (script_with s all)) ≡ Ok script
     → (all : List RunCommand) × (commands_from (command_by s.setup) 2 lines ≡ Ok all) × (script_with s all ≡ script)
 over_made s lines (Ok all) script same h = (all, same, cc)
 over_made s lines (Err e) script same h = cc
 
-over_parts : (start : ℕ) (setup : Result Configuration Refused) (bytes : List ℕ) (script : Script)
+over_parts : (start : ℕ) (setup : Result Configuration InputRefusal) (bytes : List ℕ) (script : Script)
     → ((setup >>= λ c. beginning_over (starts.Fresh start) c bytes) >>= script_from) ≡ Ok script
     → (c : Configuration) × (all : List RunCommand) × (setup ≡ Ok c) × (commands_from (command_by c) 2 (lines_of bytes) ≡ Ok all)
     × (script_with (opening c start) all ≡ script)

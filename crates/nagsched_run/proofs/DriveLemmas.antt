@@ -1,14 +1,14 @@
 -- A whole run, and what its faults leave.
-use Rattle.std.proofs.Common.{◌≡◌, ◌≢◌, ℕ, List, [], take, Option, None, Ok, Err, refl, subst, ap, ◌∙◌}
+use Rattle.std.proofs.Common.{◌≡◌, ◌≢◌, ℕ, List, [], take, Option, Ok, Err, refl, subst, ap, ◌∙◌}
 use Rattle.std.proofs.Common.{inl, inr}
 use Rattle.std.specs.Prelude.{IfSome}
 use Rattle.std.specs.Io.KnownBytes.{Appends, Keeps, Consumes}
 use Rattle.nagsched_protocol.specs.declared.drive_error.DriveError.{DriveError}
 use Rattle.nagsched_protocol.specs.declared.drive_error.DriveError.TheVariants as errors
 use Rattle.nagsched_protocol.specs.declared.input.TheConstants.{MAX_READ_BYTES}
+use Rattle.nagsched_protocol.specs.declared.refusal.InputRefusal.TheVariants as refusals
 use Rattle.nagsched_protocol.specs.declared.refusal.LineFault.TheVariants as line_fault
 use Rattle.nagsched_protocol.specs.declared.start.Start.{Start}
-use Rattle.nagsched_protocol.specs.Refused.{line_refused}
 use Rattle.nagsched_protocol.specs.Script.{script_of}
 use Rattle.nagsched_protocol.specs.Text.{script_text, text}
 use Rattle.nagsched_protocol.specs.Written.{LeftOfText}
@@ -21,7 +21,7 @@ use Rattle.nagsched_run.specs.Drive.{RunEnded, LeavesRun, outcome_of}
 
 script_take : (how : Start) → IsOfRead (script_of how)
 unfolding script_of
-script_take how = too_long_tells (script_of how) (Err (line_refused line_fault.TooLong 0 None)) (limit_tells _)
+script_take how = too_long_tells (script_of how) (Err (refusals.Line line_fault.TooLong 0)) (limit_tells _)
 
 text_take : (how : Start) → IsOfRead (text how)
 unfolding text

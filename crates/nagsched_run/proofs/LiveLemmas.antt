@@ -12,8 +12,7 @@ use Rattle.nagsched_protocol.specs.declared.command.RunCommand.{RunCommand}
 use Rattle.nagsched_protocol.specs.declared.drive_error.DriveError.{DriveError}
 use Rattle.nagsched_protocol.specs.declared.drive_error.DriveError.TheVariants as errors
 use Rattle.nagsched_protocol.specs.declared.line_reader.TheConstants.{SETUP_PREFIX_BYTES}
-use Rattle.nagsched_protocol.specs.Refused.{Refused, refused_of, without_tree}
-use Rattle.nagsched_protocol.specs.declared.refusal.Refused as declared
+use Rattle.nagsched_protocol.specs.declared.refusal.InputRefusal.{InputRefusal}
 use Rattle.nagsched_protocol.specs.declared.refusal.InputRefusal.TheVariants as refusal
 use Rattle.nagsched_protocol.specs.declared.refusal.ScriptError.{ScriptError}
 use Rattle.nagsched_protocol.specs.declared.refusal.ScriptError.TheVariants as script
@@ -152,10 +151,10 @@ wrote_behind held mid holds text k a = Appends-trans held mid holds [] text (app
 
 -- ---- answers
 
-pub answer_lines : (s : State) (r : Result (Option RunCommand) Refused) → AreWholeLines (line_answer s r)
+pub answer_lines : (s : State) (r : Result (Option RunCommand) InputRefusal) → AreWholeLines (line_answer s r)
 answer_lines s (Ok None) = inl refl
 answer_lines s (Ok (Some c)) = inr (answer_line_ends s c)
-answer_lines s (Err why) = inr (refused_text (input_refusal_text why.why), refl)
+answer_lines s (Err why) = inr (refused_text (input_refusal_text why), refl)
 
 -- bytes with a line feed are a line and those behind it, whatever comes later
 lines_on : (bytes more : List ℕ) → has_feed bytes ≡ true → lines_of (bytes ++ more) ≡ first_line_of bytes ∷ lines_of (rest_after_line bytes ++ more)
@@ -382,18 +381,18 @@ unanswered s number hand bytes_read had left held mid holds e false read feed en
 -- ---- the whole
 
 -- a refusal that was read is the one that is defined
-pub gives_refused : {X Y : Type 0} (view : X → Y) (r : Result X ScriptError) (e : ScriptError) (why : declared.Refused) (x : Result Y Refused)
-    → IsExpectedResult view r x → r ≡ Err e → e ≡ script.Refused why → x ≡ Err (refused_of why)
+pub gives_refused : {X Y : Type 0} (view : X → Y) (r : Result X ScriptError) (e : ScriptError) (why : InputRefusal) (x : Result Y InputRefusal)
+    → IsExpectedResult view r x → r ≡ Err e → e ≡ script.Refused why → x ≡ Err why
 gives_refused view (Ok c) e why x h i j = cc
 gives_refused view (Err script.Memory) e why x h i j = cc
-gives_refused view (Err (script.Refused w)) e why x h i j = let k : w ≡ why = cc in h ∙ ap (λ d. Err (refused_of d)) k
+gives_refused view (Err (script.Refused w)) e why x h i j = let k : w ≡ why = cc in h ∙ ap Err k
 
 pub setup_is : (r : Result Configuration LoadError) (c : Configuration) → with_setup_refusal r ≡ Ok c → r ≡ Ok c
 setup_is (Ok d) c e = cc
 setup_is (Err e) c h = cc
 
-pub setup_refused : (r : Result Configuration LoadError) (why : Refused) → with_setup_refusal r ≡ Err why
-    → (e : LoadError) × (r ≡ Err e) × (why ≡ without_tree (refusal.Setup e))
+pub setup_refused : (r : Result Configuration LoadError) (why : InputRefusal) → with_setup_refusal r ≡ Err why
+    → (e : LoadError) × (r ≡ Err e) × (why ≡ refusal.Setup e)
 setup_refused (Ok c) why h = cc
 setup_refused (Err e) why h = (e, refl, cc)
 

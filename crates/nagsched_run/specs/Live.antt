@@ -12,7 +12,7 @@ use Rattle.nagsched_protocol.specs.declared.drive_error.DriveError.TheVariants a
 use Rattle.nagsched_protocol.specs.declared.line_reader.TheConstants.{SAVED_PREFIX_BYTES, SETUP_PREFIX_BYTES}
 use Rattle.nagsched_protocol.specs.declared.live_error.LiveError.{LiveError}
 use Rattle.nagsched_protocol.specs.declared.live_error.LiveError.TheVariants as live
-use Rattle.nagsched_protocol.specs.Refused.{Refused}
+use Rattle.nagsched_protocol.specs.declared.refusal.InputRefusal.{InputRefusal}
 use Rattle.nagsched_protocol.specs.declared.start.Start.{Start}
 use Rattle.nagsched_protocol.specs.Input.{first_line_of, lines_of}
 use Rattle.nagsched_protocol.specs.LiveError.{IsSpent, drive_error_of}
@@ -45,7 +45,7 @@ live_outcome how input = outcome_by (beginning_of how input)
 
 -- The bytes that were read for this beginning: all of them or, if the beginning is refused, no more than show the refusal. `behind` gives the part of
 -- the bytes read that comes after the setup document.
-abbrev pub ReadOver : (List ℕ → List ℕ) → Result Beginning Refused → Option (List ℕ) → Option (List ℕ) → List ℕ → Type 0
+abbrev pub ReadOver : (List ℕ → List ℕ) → Result Beginning InputRefusal → Option (List ℕ) → Option (List ℕ) → List ℕ → Type 0
 ReadOver behind (Ok b) had left bytes = Consumes had left bytes
 ReadOver behind (Err e) had left bytes = (bytes_read : List ℕ) × Consumes had left bytes_read × IsBoundedReading SAVED_PREFIX_BYTES (behind bytes_read)
 
@@ -131,7 +131,7 @@ AnsweringEnded begins first hand io ended =
 -- ---- what comes after the setup document
 
 -- the saved state that these bytes begin with, or its refusal
-abbrev pub saved_at_start : List ℕ → Result Saved Refused
+abbrev pub saved_at_start : List ℕ → Result Saved InputRefusal
 saved_at_start bytes = with_saved_refusal (saved_of_text (first_line_of bytes))
 
 -- How a conversation ended after a setup, with these bytes in the buffer. Some bytes came, and none if nothing may follow. For all bytes together it

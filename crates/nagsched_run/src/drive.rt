@@ -72,8 +72,7 @@ fn answer<W: Write>(alloc: Global, start: Start, input: &[u8], writer: &mut W) -
     match Script::read(alloc, start, input) {
         Ok(Script { sched, commands }) => carry_out(alloc, sched, &commands, writer),
         Err(error) => {
-            let refused = error.refused()?;
-            write_refusal(alloc, refused.why, writer)?;
+            write_refusal(alloc, error.refusal()?, writer)?;
             Ok(Outcome::Refused)
         }
     }

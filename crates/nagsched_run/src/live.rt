@@ -90,7 +90,7 @@ fn converse<R: Read, W: Write>(
     let (setup, whole) = read_setup_line(alloc, &mut buffered, reader)?;
     match setup {
         Ok(setup) => continue_live(alloc, start, setup, whole, buffered, reader, writer),
-        Err(ScriptError::Refused(refusal)) => as_live_result(refuse(alloc, refusal.why, writer)),
+        Err(ScriptError::Refused(refusal)) => as_live_result(refuse(alloc, refusal, writer)),
         Err(ScriptError::Memory) => Err(LiveError::Memory),
     }
 }
@@ -178,7 +178,7 @@ fn continue_resumed<R: Read, W: Write>(
                 alloc, setup, moment, &saved, follow, buffered, reader, writer,
             )
         }
-        Err(ScriptError::Refused(why)) => as_live_result(refuse(alloc, why.why, writer)),
+        Err(ScriptError::Refused(why)) => as_live_result(refuse(alloc, why, writer)),
         Err(ScriptError::Memory) => Err(LiveError::Memory),
     }
 }
@@ -460,7 +460,7 @@ impl Conversation {
                 &mut self.reply,
                 writer,
             ),
-            Err(ScriptError::Refused(refusal)) => write_refusal(alloc, refusal.why, writer),
+            Err(ScriptError::Refused(refusal)) => write_refusal(alloc, refusal, writer),
             Err(ScriptError::Memory) => Err(DriveError::Memory),
         }
     }

@@ -62,7 +62,7 @@ fn push_shape_fault(
 }
 
 /// Appends these words, a value, and the kind that it must have.
-pub fn push_kind_fault(
+fn push_kind_fault(
     alloc: Global,
     line: &mut Line,
     words: &str,

@@ -1,6 +1,6 @@
 use Rattle.std.proofs.Common.{◌∙◌, Ok, Err}
 use Rattle.std.proofs.lemmas.Result.{err_from_is_err_and}
-use Rattle.nagsched_protocol.proofs.ReadLemmas.{met_refusal}
+use Rattle.nagsched_protocol.proofs.ReadLemmas.{met_refusal, no_refusal}
 use Rattle.nagsched_jobs.proofs.DrillDriveLemmas.{refusal_of_drill, text_of_drill, wrote_drill, wrote_none}
 use Rattle.nagsched_protocol.proofs.DrillLemmas.{few_moments}
 use Rattle.nagsched_protocol.proofs.WrittenLemmas.{text_line}
@@ -23,18 +23,18 @@ returns-in_ok-book-in-Ok-clause-wrote g c =
 
 -- ---- a refusal
 
-pub returns-in_err-refused-in-Err-clause-wrote : goal.returns-in_err-refused-in-Err-clause-wrote
-returns-in_err-refused-in-Err-clause-wrote g c =
-    let p = err_from_is_err_and c.from_residual-in_err-refused-in-Err.result c.from_residual-in_err-refused-in-Err.ensures.1 in
-    rw (p.1) (wrote_none _ _ _ _ _ _ (p.2 ∙ c.in_err-refused-in-Err.ensures.err.0))
+pub returns-in_err-refusal-in-Err-clause-wrote : goal.returns-in_err-refusal-in-Err-clause-wrote
+returns-in_err-refusal-in-Err-clause-wrote g c =
+    let p = err_from_is_err_and c.from_residual-in_err-refusal-in-Err.result c.from_residual-in_err-refusal-in-Err.ensures.1 in
+    rw (p.1) (wrote_none _ _ _ _ _ _ (p.2 ∙ no_refusal _ _ c.in_err-refusal-in-Err.ensures))
 
 pub returns-in_err-write_refusal-in-Err-clause-wrote : goal.returns-in_err-write_refusal-in-Err-clause-wrote
 returns-in_err-write_refusal-in-Err-clause-wrote g c =
     let p = err_from_is_err_and c.from_residual-in_err-write_refusal-in-Err.result c.from_residual-in_err-write_refusal-in-Err.ensures.1 in
-    let refused = met_refusal _ _ _ c.in_ok-refused-in-Err.ensures.ok c.in-Err.ensures in
+    let refused = met_refusal _ _ _ c.in_ok-refusal-in-Err.ensures c.in-Err.ensures in
     rw (p.1, p.2) (wrote_drill (Err _) _ _ _ _ _ _ _ (refusal_of_drill _ _ _ _ _ refused) (text_line _ _ _ _ c.in_err-write_refusal-in-Err.ensures))
 
 pub returns-in_ok-write_refusal-in-Err-clause-wrote : goal.returns-in_ok-write_refusal-in-Err-clause-wrote
 returns-in_ok-write_refusal-in-Err-clause-wrote g c =
-    let refused = met_refusal _ _ _ c.in_ok-refused-in-Err.ensures.ok c.in-Err.ensures in
+    let refused = met_refusal _ _ _ c.in_ok-refusal-in-Err.ensures c.in-Err.ensures in
     wrote_drill (Ok _) _ _ _ _ _ _ _ (refusal_of_drill _ _ _ _ _ refused) c.in_ok-write_refusal-in-Err.ensures

@@ -1,6 +1,5 @@
 use Rattle.std.proofs.Common.{◌≡◌, ◌++◌, Ok, Err}
 use Rattle.std.proofs.lemmas.Result.{err_from_is_err_and}
-use Rattle.nagsched_protocol.specs.Refused.{refused_of}
 use Rattle.nagsched_run.specs.Live.{saved_at_start}
 use Rattle.nagsched_run.proofs.LiveLemmas.{gives_refused}
 use Rattle.nagsched_protocol.proofs.WrittenLemmas.{Keeps-same}
@@ -24,11 +23,11 @@ returns-in-Ok-clause-continuation g c =
 pub returns-in-Err-Refused-clause-continuation : goal.returns-in-Err-Refused-clause-continuation
 returns-in-Err-Refused-clause-continuation g c =
     let t = c.in_ok-saved.ensures.reading in
-    let s : saved_at_start (c.args.buffered ++ t.0) ≡ Err (refused_of c.in-Err-Refused.why) =
+    let s : saved_at_start (c.args.buffered ++ t.0) ≡ Err c.in-Err-Refused.why =
     gives_refused _ c.in_ok-saved.saved _ c.in-Err-Refused.why _ t.4.0 c.in-Err-Refused.is
     (rw (c.in-Err-Refused.is) at c.in-Err-Refused.field-0-is) in
     let r = c.refuse.ensures in
-    gone_refused _ _ _ _ _ t.0 _ _ _ _ (refused_of c.in-Err-Refused.why) _ _ s t.1 t.2 t.3 c.requires.end t.4.1.follows t.4.1.ended r.outcome r.written r.fault c.as_live_result.ensures
+    gone_refused _ _ _ _ _ t.0 _ _ _ _ c.in-Err-Refused.why _ _ s t.1 t.2 t.3 c.requires.end t.4.1.follows t.4.1.ended r.outcome r.written r.fault c.as_live_result.ensures
 
 pub returns-clause-continuation : goal.returns-clause-continuation
 returns-clause-continuation g c =

@@ -2,7 +2,6 @@ use Rattle.std.proofs.Common.{◌≡◌, Ok, Err}
 use Rattle.std.proofs.lemmas.Result.{err_from_is_err_and}
 use Rattle.check_objects.specs.Setup.{setup_of}
 use Rattle.nagsched_protocol.specs.Input.{first_line_of}
-use Rattle.nagsched_protocol.specs.Refused.{refused_of}
 use Rattle.nagsched_protocol.specs.Script.{with_setup_refusal}
 use Rattle.nagsched_protocol.specs.declared.line_reader.TheConstants.{SETUP_PREFIX_BYTES}
 use Rattle.nagsched_protocol.proofs.LiveInputLemmas.{behind_size}
@@ -35,12 +34,12 @@ returns-in-Ok-clause-conversation g c =
 pub returns-in-Err-Refused-clause-conversation : goal.returns-in-Err-Refused-clause-conversation
 returns-in-Err-Refused-clause-conversation g c =
     let t = c.in_ok-setup.ensures in
-    let s : with_setup_refusal (setup_of (first_line_of t.0)) ≡ Err (refused_of c.in-Err-Refused.refusal) =
+    let s : with_setup_refusal (setup_of (first_line_of t.0)) ≡ Err c.in-Err-Refused.refusal =
     gives_refused _ c.in_ok-setup.setup _ c.in-Err-Refused.refusal _ t.3.0 c.in-Err-Refused.is
     (rw (c.in-Err-Refused.is) at c.in-Err-Refused.field-0-is) in
     let r = c.refuse.ensures in
     rw (← written_told _ _ c.as_live_result.ensures)
-    (setup_refusal _ t.0 _ _ _ _ (refused_of c.in-Err-Refused.refusal) c.in_ok-setup.whole _ s t.1 t.2 t.3.1.follows t.3.1.ended r.outcome r.written r.fault)
+    (setup_refusal _ t.0 _ _ _ _ c.in-Err-Refused.refusal c.in_ok-setup.whole _ s t.1 t.2 t.3.1.follows t.3.1.ended r.outcome r.written r.fault)
 
 pub returns-clause-conversation : goal.returns-clause-conversation
 returns-clause-conversation g c =

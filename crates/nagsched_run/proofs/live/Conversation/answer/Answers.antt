@@ -1,6 +1,5 @@
 use Rattle.std.proofs.Common.{◌≡◌, ◌∙◌, sym, ap, Some, Ok, Err}
 use Rattle.nagsched_protocol.specs.LiveText.{line_answer, line_meaning}
-use Rattle.nagsched_protocol.specs.Refused.{refused_of}
 use Rattle.nagsched_protocol.specs.Text.{answer_line}
 use Rattle.nagsched_run.proofs.LiveLemmas.{leaves_line}
 use Rattle.nagsched_run.proofs.live.Conversation.answer.Goals as goal
@@ -13,5 +12,5 @@ returns-in-Ok-Some-clause-fault g c text kept =
 
 pub returns-in-Err-Refused-clause-fault : goal.returns-in-Err-Refused-clause-fault
 returns-in-Err-Refused-clause-fault g c text kept =
-    let e : line_meaning c.args.self.now.sched c.args.number text ≡ Err (refused_of c.in-Err-Refused.refusal) = rw (c.setup.ensures, c.in-Err-Refused.field-0-is) at (c.in-Err-Refused.ensures text kept) in
+    let e : line_meaning c.args.self.now.sched c.args.number text ≡ Err c.in-Err-Refused.refusal = rw (c.setup.ensures, c.in-Err-Refused.field-0-is) at (c.in-Err-Refused.ensures text kept) in
     leaves_line c.write_refusal.result _ _ _ _ (ap (line_answer c.args.self.now.sched) (sym e)) c.write_refusal.ensures
