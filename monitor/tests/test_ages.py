@@ -11,7 +11,7 @@ ALWAYS = {day: ["00:00-24:00"] for day in ("monday", "tuesday", "wednesday", "th
 class Ages(SiteTest):
     def overdue(self, monitor: SimulatedMonitor) -> Tuple[int, int]:
         found = monitor.engine.checks.overdue()
-        return found.number, found.promised
+        return found["overdue"], found["promised"]
 
     def lose(self, monitor: SimulatedMonitor) -> None:
         """From now on no plugin can be started."""

@@ -3,22 +3,21 @@
 A turn can be refused only while it is stored, and then nothing has changed. Clock, runners, schedulers and database are parameters, so that tests can
 simulate a day in seconds."""
 import collections
-from functools import partial
 from typing import Any, Callable, Deque, Dict, List, Optional, Sequence
 
 from ..faults import ConversationEnded, NotStored
 from ..model.clock import Clock
 from ..model.objects import ObjectState, Owner
-from ..model.protocol import Abandon, Call, Freed, PutOff, Refused, Report, Reschedule, Standing, Taken, call_line
+from ..model.protocol import Abandon, Call, Freed, PutOff, Refused, Report, Standing, Taken, call_line
 from ..run.runners import RunnerPools
 from ..scheduler.scheduling import ObjectAnswer, Plan, Scheduling
 from ..site.site import Site
 from ..store.counters import Counters
-from ..store.store import Store, store_figures
+from ..store.store import Store, Write, store_figures
 from .checks import WINDOW, Checks
 from .passive import PassiveResults
 from .plugin_runs import MARGIN, PluginRuns
-from .requests import Actions, Request, Requests
+from .requests import Request, Requests, answer_requests, fault_of_monitor
 
 PAUSE = 10_000  # the longest time between two turns that isn't a pause, in milliseconds
 # The longest wait for the next turn, and how soon a change is stored or a next check is set, in milliseconds.
@@ -40,20 +39,18 @@ class Engine:
         figures = store.figures()
         self.counters = Counters(figures, clock)
         spooled_at = 0.0 if store.spooled is None else figures.get("spooled_at") or clock.wall()
-        self.counters.note({"spooled": -1 if store.spooled is None else store.spooled, "spooled_at": spooled_at})
+        self.counters.update({"spooled": -1 if store.spooled is None else store.spooled, "spooled_at": spooled_at})
         self.passive = PassiveResults(store, scheduling, log)
         self.checks = Checks(scheduling, self.passive, store.switches(), clock, log)
         self.plugins = PluginRuns(scheduling, runners, clock, log, self.counters)
-        actions = Actions(self.signs, self.save, self.counters.note, self._renew_database, reload, stop, self.counters.count)
-        self.requests = Requests(scheduling, store, self.checks, self.passive, clock, log, actions)
+        self.requests = Requests(self, clock, log, reload, stop)
         # Requests that wait for a turn, and those that are stored and not answered yet.
         self._requests: List[Request] = []
+        self.add_request = self._requests.append
         self._stored_requests: List[Request] = []
         # Answers that aren't applied yet: a fault in the middle leaves the rest to the next turn.
         self._answers: Deque[ObjectAnswer] = collections.deque()
-        # The moments of the last turn that stored everything, and of the last one.
-        self._last_turn: Optional[int] = None
-        self._last_try: Optional[int] = None
+        self._last_turn: Optional[int] = None  # the moment of the last turn that stored everything
         self._schedule_save()
         self.is_stuck = False
         # A result of each object is awaited since its last one, without the time in which no monitor ran. If it had none, since its part began.
@@ -65,8 +62,10 @@ class Engine:
 
     def turn(self) -> int:
         """Does all the work that is due now, and returns the moment for which the next turn is wanted."""
-        now = self._now = self._clock.moment()
-        self._log_pause(now)
+        before, now = self._now, self._clock.moment()
+        self._now = now
+        if now - before > PAUSE:  # the monitor or its machine stood still
+            self._log(f"stood still for {(now - before) / 1000:.0f} seconds: overdue checks are spread over {WINDOW / 1000:g} seconds")
         self.plugins.collect_events(now)
         plan = self._make_plan(now)
         try:
@@ -74,14 +73,13 @@ class Engine:
         except NotStored as error:
             return self._retry_later(error, now)
         except Exception as error:  # any exception: the requests may be its cause, and aren't stored again
-            self.requests.refuse(self._requests, f"the monitor has a fault: {type(error).__name__}: {error}", False)
-            self._requests = []
+            answer_requests(self._requests, fault_of_monitor(error))
             raise
         if self.is_stuck:
             self._log("the database takes writes again")
         self.is_stuck = False
         self._stored_requests += self._requests  # a fault in the rest of this turn doesn't have them stored again
-        self._requests = []
+        self._requests.clear()
         for follow in plan.then:
             follow()
         self._answers.extend(self.scheduling.make_calls())
@@ -89,26 +87,18 @@ class Engine:
             self._apply(self._answers.popleft())
         for follow in plan.last:
             follow()
-        self.requests.answer(self._stored_requests)
-        self._stored_requests = []
+        answer_requests(self._stored_requests)
         self.runners.flush()
         self._last_turn = now
         self._save_when_due()
         return self._next_turn(now)
-
-    def _log_pause(self, now: int) -> None:
-        """Logs that no turn came for a while: the monitor or its machine stood still."""
-        if self._last_try is not None and now - self._last_try > PAUSE:
-            self._log(f"stood still for {(now - self._last_try) / 1000:.0f} seconds: overdue checks are spread over {WINDOW / 1000:g} seconds")
-        self._last_try = now
 
     def _retry_later(self, error: NotStored, now: int) -> int:
         """Nothing could be stored, and nothing has changed: the client may send the request again."""
         if not self.is_stuck:
             self._log(f"no call is made until it can be stored: {error}")
         self.is_stuck = True
-        self.requests.refuse(self._requests, str(error))
-        self._requests = []
+        answer_requests(self._requests, error)
         self.runners.flush()
         return now + LONGEST_WAIT
 
@@ -124,34 +114,23 @@ class Engine:
     def _make_plan(self, now: int) -> Plan:
         """All the work of this turn, in the order in which schedulers get it."""
         plan = Plan()
+        # Before the requests, which may set a figure.
+        if self.is_stuck or self.counters.are_due(now):  # a stuck monitor has something to write in each turn, which shows when it can
+            plan.writes.append(self._store_figures())
         plan.calls += [each for each in self.scheduling.mirrors.take_calls(now) if self.scheduling.is_open(each[0])]
         self.plugins.plan(plan, now)
         self.passive.plan_reports(plan, now)
         self.checks.plan_periods(plan)
-        self._plan_requests(plan)
+        self.requests.plan(self._requests, plan)
         self.checks.plan_freshness(now)
         self.checks.plan_spread(self._last_turn is None or now - self._last_turn > PAUSE, now)
         self.checks.plan_next_checks(plan, now)
         self.passive.plan_takes(plan, now)
         self.checks.plan_takes(plan, now)
-        if self.is_stuck or self.counters.are_due(now):  # a stuck monitor has something to write in each turn, which shows when it can
-            figures = self.counters.changed_figures(self.store.last_call, self.checks.figures())
-            plan.writes.append(store_figures(figures))
-            plan.then.append(partial(self.counters.set_written, figures))
         return plan
 
-    def add_request(self, request: Request) -> None:
-        self._requests.append(request)
-
-    def _plan_requests(self, plan: Plan) -> None:
-        for request in self._requests:
-            step = self.requests.plan(request)
-            plan.calls += step.calls
-            plan.requested |= {call.name for _, call, _ in step.calls if isinstance(call, Reschedule)}
-            plan.writes += step.writes
-            plan.then += step.then
-            plan.last += step.last
-            plan.at_once |= step.at_once
+    def _store_figures(self) -> Write:
+        return store_figures(self.counters.figures(self.store.last_call, self.checks.figures()))
 
     def _apply(self, object_answer: ObjectAnswer) -> None:
         call, answer, obj, before = object_answer
@@ -195,17 +174,16 @@ class Engine:
             self._log(f"{obj.name} has no command: no check of it is made")
 
     def signs(self) -> Dict[str, Any]:
-        wall, overdue = self._clock.wall(), self.checks.overdue()
         since_turn = self._clock.moment() - (self._now if self._last_turn is None else self._last_turn)
         try:
             changes, first = self.store.waiting_changes()
         except NotStored:
             changes, first = 0, None
         return {
-            "turn": wall - since_turn / 1000, "is_stuck": self.is_stuck, "passive_waiting": self.passive.count, "changes_waiting": changes,
+            "turn": self._clock.wall() - since_turn / 1000, "is_stuck": self.is_stuck, "passive_waiting": self.passive.count, "changes_waiting": changes,
             "oldest_change": 0.0 if first is None else max(0, self._clock.moment() - first) / 1000, "runners": self.runners.process_counts(),
-            "overdue": overdue.number, "promised": overdue.promised, "overdue_by": overdue.by / 1000, "most_overdue": overdue.name,
-            "out": len(self.scheduling.states.running.plugins()), "made": self.counters.result_count, "latest_start": self.counters.latest_start,
+            **self.checks.overdue(), "out": len(self.scheduling.states.running.plugins()), "made": self.counters.result_count,
+            "latest_start": self.counters.latest_start,
         }
 
     def _schedule_save(self) -> None:
@@ -214,10 +192,10 @@ class Engine:
 
     def _save_when_due(self) -> None:
         """Saves one part at a time, so that checks don't wait for all."""
-        part = self.scheduling.pop_long_replay()
-        if part is not None or self._now >= self._save_at or self.store.last_call - self._saved_call >= SAVE_CALLS:
+        part = self.scheduling.longest_unsaved()
+        if self.scheduling.has_long_replay(part) or self._now >= self._save_at or self.store.last_call - self._saved_call >= SAVE_CALLS:
             try:
-                self.save([self.scheduling.longest_unsaved() if part is None else part])
+                self.save([part])
             except (NotStored, ConversationEnded) as fault:
                 self._log(f"the state isn't saved: {fault}")
                 self._save_at, self._saved_call = self._now + SAVE_AGAIN, self.store.last_call
@@ -226,20 +204,19 @@ class Engine:
         for part in self.scheduling.parts if parts is None else parts:
             self.scheduling.save(part)
         self._schedule_save()
-        self.counters.count_save()
+        self.counters.count("saves")
+        self.counters["saved_at"] = self._clock.wall()
 
-    def _renew_database(self) -> None:
-        self.scheduling.renew_database(*self.requests.rows())
-        self.counters.write_all()
+    def renew_database(self) -> None:
+        self.scheduling.renew_database(*self.requests.rows(), self._store_figures())
         self._schedule_save()
 
     def close(self) -> None:
         self.save()
-        self.store.write(store_figures(self.counters.changed_figures(self.store.last_call, self.checks.figures())))
+        self.store.write(self._store_figures())
 
     def reload(self, site: Site) -> List[str]:
         """Takes over another site; running checks continue. If it is refused, nothing has changed. Returns the changes of objects that stay."""
         changed = self.scheduling.reload(site)
-        self.checks.recheck_periods()
         self.passive.drop_others()
         return changed
