@@ -73,13 +73,16 @@ def owner_advice(path: pathlib.Path) -> str:
     """The command to use if a file of another user can't be reached, as the end of a message; nothing if the file isn't another user's.
 
     Root is never another user, and a helper has no command. If the file can't be seen, its folder counts."""
-    own = owner = os.geteuid()
-    for place in (path.parent, path):
-        with contextlib.suppress(OSError):  # it doesn't exist, or a folder above it is closed
+    for place in (path, path.parent):
+        try:
             owner = place.stat().st_uid
-    if own in (0, owner) or sys.argv[0] == "-c":
-        return ""
-    return f": you are {user_name(own)}, and it belongs to {user_name(owner)}; try: {shlex.join(['sudo', '-u', user_name(owner), *sys.argv])}"
+        except OSError:
+            continue  # it doesn't exist, or a folder above it is closed
+        own = os.geteuid()
+        if own in (0, owner) or sys.argv[0] == "-c":
+            return ""
+        return f": you are {user_name(own)}, and it belongs to {user_name(owner)}; try: {shlex.join(['sudo', '-u', user_name(owner), *sys.argv])}"
+    return ""
 
 
 def trouble_text(error: BaseException, path: Optional[pathlib.Path] = None) -> str:

@@ -9,9 +9,10 @@ from typing import Any, Dict, List, Optional, Sequence, Tuple
 
 from nagsched_monitor.model.remarks import Remark
 from nagsched_monitor.outputs.page import Server, SiteFolder
+from nagsched_monitor.store.generations import begin_generations
 from nagsched_monitor.store.remark_table import store_remark
 from nagsched_monitor.store.rows import Generation, StoredChange, StoredStanding
-from nagsched_monitor.store.store import Store, begin_generations, delete, store_change, store_figures, store_standings
+from nagsched_monitor.store.store import Store, delete, store_change, store_figures, store_standings
 
 from .simulated import SiteTest
 

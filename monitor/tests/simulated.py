@@ -158,6 +158,7 @@ class SimulatedMonitor:
         """Continues for this time, with a turn when something is due or has come."""
         end = self.clock.now + round(seconds * 1000)
         while self.clock.now < end:
+            self.engine.requests.begin_turn()
             wanted = self.engine.turn()
             self.take_changes()
             self.look()
@@ -186,6 +187,7 @@ class SimulatedMonitor:
         """The answer to a request, after the turn in which it is obeyed."""
         answers: List[Mapping[str, Any]] = []
         self.engine.add_request(Request(line, answers.append))
+        self.engine.requests.begin_turn()
         self.engine.turn()
         self.take_changes()
         answer: Dict[str, Any] = json.loads(json.dumps(answers[0]))

@@ -11,7 +11,7 @@ ALWAYS = {day: ["00:00-24:00"] for day in ("monday", "tuesday", "wednesday", "th
 class Ages(SiteTest):
     def overdue(self, monitor: SimulatedMonitor) -> Tuple[int, int]:
         found = monitor.engine.checks.overdue()
-        return found["overdue"], found["promised"]
+        return found.number, found.promised
 
     def lose(self, monitor: SimulatedMonitor) -> None:
         """From now on no plugin can be started."""

@@ -128,7 +128,7 @@ class Command(SiteTest, Clock):
         self.worked(f"while read -r line; do case $line in *bad4*DOWN*) exit 1;; esac; echo \"$line\" >> {self.folder}/taken; done")
         self.assertEqual(sorted(set(self.taken())), ["a1", "a2", "a3", "bad4", "z100", "z101", "z102"])
         self.assertLessEqual(max(self.taken().count(name) for name in self.taken()), 4)
-        self.assertEqual((self.counters.figures(0, {})["changes_aside"], self.store.outbox()), (1, []))
+        self.assertEqual((self.counters.changed_figures(0, {})["changes_aside"], self.store.outbox()), (1, []))
         self.assertEqual([json.loads(document)["state"] for (document,) in self.store._database.execute("SELECT document FROM not_taken")], ["DOWN"])
 
     def test_a_relay_that_is_away_for_hours(self) -> None:
@@ -143,7 +143,7 @@ class Command(SiteTest, Clock):
             return not self.store.outbox()
 
         self.assertTrue(becomes_true(is_done))
-        self.assertEqual((sorted(self.taken()), self.counters.figures(0, {}).get("changes_aside")), (sorted(f"h{number}" for number in range(1, 4)), None))
+        self.assertEqual((sorted(self.taken()), self.counters.changed_figures(0, {}).get("changes_aside")), (sorted(f"h{number}" for number in range(1, 4)), None))
         self.assertEqual(self.lines, ["the command for changes ended with 1; it is tried again"])
 
     def test_one_that_is_too_old_is_given_up_by_name(self) -> None:

@@ -83,7 +83,7 @@ class Histogram(SiteTest):
             counters.count_start(each)
         store = Store(self.folder)
         self.addCleanup(store.close)
-        store.write(store_figures(counters.figures(0, {})))
+        store.write(store_figures(counters.changed_figures(0, {})))
         return counters, store.figures()
 
     def test_bounds(self) -> None:
@@ -104,7 +104,7 @@ class Histogram(SiteTest):
         lately = []
         for _ in range(20):
             clock.now += 10_000
-            values = counters.figures(0, {})
+            values = counters.changed_figures(0, {})
             lately.append((values["latest_start_lately"], values["latest_start"]))
         self.assertEqual(lately[0], (0.7, 0.7))
         self.assertEqual(lately[-1], (0.0, 0.7))

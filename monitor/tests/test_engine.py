@@ -17,7 +17,7 @@ class Takes(SiteTest):
         now = monitor.clock.now
         for passed, later, at_once, wanted in ((0, "", "", 0), (0, "a", "", 0), (0, "", "a", 1), (0, "a", "a", 1), (3600, "", "", 4), (3600, "a", "", 3),
                                                (3600, "", "a", 4), (3600, "a", "a", 4), (3600, "ab", "bc", 3), (3600, "abcd", "", 0)):
-            plan = Plan(later={(0, name) for name in later}, at_once={(0, name) for name in at_once})
+            plan = Plan(later=set(later), at_once=set(at_once))
             monitor.engine.checks.plan_takes(plan, now + passed * 1000)
             self.assertEqual(plan.calls, [(0, Take(now + passed * 1000), None)] * wanted, (passed, later, at_once))
 

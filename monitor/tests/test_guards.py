@@ -84,6 +84,7 @@ class OverTime(SiteTest):
         monitor.scheduling._converse = refused
         monitor.engine.add_request(Request(b'{"do":"disable","name":"web"}', lambda _: None))
         for _ in range(200):
+            monitor.engine.requests.begin_turn()
             monitor.engine.turn()
             monitor.clock.now += 50
         self.assertLessEqual(len(tries), 12 * TRIES)
@@ -208,6 +209,7 @@ class Pairs(SiteTest):
         line = json.dumps({"do": "result", "name": "web;trap", "code": 1, "output": "x", "number": "n"}).encode()
         for _ in range(2):
             monitor.engine.add_request(Request(line, answers.append))
+        monitor.engine.requests.begin_turn()
         monitor.engine.turn()
         self.assertEqual([("done" in answer, answer.get("again", False)) for answer in answers], [(True, False), (False, True)])
         self.assertEqual(monitor.engine.passive.count, 1)

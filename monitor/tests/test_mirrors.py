@@ -184,6 +184,7 @@ class Mirrored(PartedSiteTest):
         self.write_parts([setup([gateway], []), setup([mirror(gateway), host("far", "gateway")], [])], {"part-2": {"gateway": "part-1"}})
         monitor.engine.reload(read_site(self.folder, PROGRAM))
         self.assertFalse(monitor.scheduling.is_reportable((0, "gateway")))
+        monitor.engine.requests.begin_turn()
         monitor.engine.turn()
         self.assertEqual(monitor.engine.passive.count, 1)
         monitor.run(5)

@@ -122,7 +122,7 @@ class NewDatabase(SiteTest):
         """What has to be the same after a restart."""
         states = {obj.name: (obj.standing and obj.standing[:3], obj.on, obj.next, obj.output, obj.phase, obj.history.since)
                   for obj in monitor.engine.objects.values()}
-        made = {name: value for name, value in monitor.engine.counters.items() if name.startswith(("checks.", "faults"))}
+        made = {name: value for name, value in monitor.engine.counters._values.items() if name.startswith(("checks.", "faults"))}
         return {"states": states, "numbers": monitor.engine.requests._numbers, "made": made, "switches": monitor.engine.checks.operator_switches}
 
     def test_each_way(self) -> None:
@@ -172,7 +172,7 @@ class NewDatabase(SiteTest):
             monitor.run(0.01)
         monitor.add_result("db;backup", 1, "late")
         delete_file(self.path)
-        monitor.engine.renew_database()
+        monitor.engine._renew_database()
         past = monitor.store.last_changes("db;backup")
         self.assertEqual((past and past.state, [result.words for result in monitor.store.waiting_results()]), ("OK", ["late"]))
 

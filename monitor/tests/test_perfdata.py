@@ -12,7 +12,7 @@ from nagsched_monitor.model.text import performance_data, plain_text
 from nagsched_monitor.outputs import perfdata
 from nagsched_monitor.outputs.perfdata import Spool
 from nagsched_monitor.scheduler.mirroring import PlannedCall
-from nagsched_monitor.store import store
+from nagsched_monitor.store import generations, store
 
 from .running import ProcessTest
 from .simulated import BEGIN, SimulatedClock, SimulatedMonitor, SiteTest, host, service
@@ -137,7 +137,7 @@ class EachOnce(SpoolTest):
         self.site()
         self.start()
         self.there.rmdir()
-        with mock.patch.object(store, "MOST_UNSPOOLED", 200):
+        with mock.patch.object(generations, "MOST_UNSPOOLED", 200):
             for _ in range(20):
                 self.its.run(10)
                 self.its.engine.save()

@@ -174,6 +174,7 @@ class RemarksTest(SiteTest):
         for members in ({"do": "mute", "name": "web", **SAID}, {"do": "remove", "kind": "mute", "name": "web"}, {"do": "comment", "name": "web", **SAID},
                         {"do": "remove", "kind": "comment", "name": "web"}, {"do": "remove", "kind": "comment", "name": "web"}):
             self.now.engine.add_request(Request(json.dumps(members).encode(), answers.append))
+        self.now.engine.requests.begin_turn()
         self.now.engine.turn()
         self.assertEqual(answers, [{"done": "mute", "name": "web", "id": 1}, {"done": "remove", "ids": [1]}, {"done": "comment", "name": "web", "id": 2},
                                    {"done": "remove", "ids": [2]}, {"error": "there is no such comment"}])
@@ -183,7 +184,7 @@ class RemarksTest(SiteTest):
         self.ask("comment")
         self.ask("mute")
         before = self.stored()
-        self.now.engine.renew_database()
+        self.now.engine._renew_database()
         self.assertEqual((self.stored(), self.held()), (before, {"web;http"}))
 
     def test_damaged_row_is_set_aside(self) -> None:

@@ -9,8 +9,9 @@ from nagsched_monitor.faults import MonitorFault, NotStored
 from nagsched_monitor.model.remarks import Remark
 from nagsched_monitor.store.remark_table import store_remark
 from nagsched_monitor.store.rows import LOSSES, TABLES, VERSION, Generation, StoredChange, StoredStanding, checksum_of
+from nagsched_monitor.store.generations import begin_generations
 from nagsched_monitor.store.store import (
-    Store, begin_generations, delete, drop_changes_before, insert, store_calls, store_change, store_figures, store_request, store_standings,
+    Store, delete, drop_changes_before, insert, store_calls, store_change, store_figures, store_request, store_standings,
 )
 
 from .simulated import SiteTest

@@ -4,13 +4,12 @@ The age of what is known is the time since each object's last result, compared w
 results away: no plugin can be started, a runner is away, a scheduler or the disk fails."""
 import collections
 from functools import partial
-from typing import Any, Callable, Dict, List, Mapping, Optional, Sequence, Tuple
+from typing import Callable, Dict, List, Mapping, NamedTuple, Optional, Sequence, Tuple
 
 from ..model.clock import Clock
 from ..model.objects import HOST_FIRST, RESULT_FIRST, ObjectDefinition, ObjectState
 from ..model.protocol import NO_PROBLEM, Enable, Reschedule, Standing, Take
 from ..scheduler.scheduling import Plan, Scheduling
-from ..site.site import Site
 from .passive import PassiveResults
 
 WINDOW = 15_000  # the time within which overdue checks are made, in milliseconds, unless their interval is shorter
@@ -21,6 +20,15 @@ MARGIN = 60_000
 LOG_AGAIN = 600_000
 
 
+class Overdue(NamedTuple):
+    """The objects without a result in time: how many of how many, and by how many milliseconds which object is overdue the longest."""
+
+    number: int
+    promised: int
+    by: int
+    name: str
+
+
 class Checks:
     def __init__(self, scheduling: Scheduling, passive: PassiveResults, operator: Dict[str, bool], clock: Clock, log: Callable[[str], None]) -> None:
         self._scheduling, self._passive, self._clock, self._log = scheduling, passive, clock, log
@@ -29,9 +37,9 @@ class Checks:
         # The next checks that wait to be set, and the objects that were switched on.
         self.planned_checks: Dict[str, Reschedule] = {}
         self._to_spread: List[str] = []
-        # The periods that include the minute for which they were looked at last, this minute, and their site.
+        # The periods that include the minute for which they were looked at last.
         self._periods: Mapping[str, bool] = {}
-        self._looked_at: Optional[Tuple[int, Site]] = None
+        self._minute: Optional[int] = None
         self._logged_at: Optional[int] = None  # when overdue objects were logged last, while there are some
 
     def has_more(self, now: int) -> bool:
@@ -47,17 +55,20 @@ class Checks:
     def is_in_period(self, definition: ObjectDefinition) -> bool:
         return definition.period is None or self._periods.get(definition.period, True)
 
+    def recheck_periods(self) -> None:
+        self._minute = None
+
     def plan_periods(self, plan: Plan) -> None:
-        """Switches objects by their periods, once a minute and for another site. Objects that are switched on are spread."""
+        """Switches objects by their periods, once a minute. Objects that are switched on are spread."""
         wall = self._clock.wall()
-        looked_at = int(wall // 60), self._scheduling.site
-        if looked_at == self._looked_at:
+        minute = int(wall // 60)
+        if minute == self._minute:
             return
         self._periods = self._scheduling.site.periods.active_by_name(wall)
         changed = [obj for obj in self._objects.values() if obj.on != self.is_to_be_enabled(obj.definition)]
         opened = [obj for obj in changed if self._scheduling.is_open(obj.definition.part)]
         plan.calls += [(obj.definition.part, Enable(obj.name, not obj.on), None) for obj in opened]
-        plan.then.append(partial(setattr, self, "_looked_at", looked_at if len(opened) == len(changed) else None))
+        plan.then.append(partial(setattr, self, "_minute", minute if len(opened) == len(changed) else None))
         plan.then.append(partial(self._to_spread.extend, [obj.name for obj in changed if not obj.on]))
 
     def apply_switch(self, obj: ObjectState, on: Optional[bool]) -> None:
@@ -84,7 +95,7 @@ class Checks:
                 left[name] = call
             elif obj.run is None:
                 plan.calls.append((obj.definition.part, call, None))
-                (plan.at_once if call.time <= now else plan.later).add(obj.key)
+                (plan.at_once if call.time <= now else plan.later).add(name)
         plan.then.append(partial(setattr, self, "planned_checks", left))
 
     def plan_freshness(self, now: int) -> None:
@@ -114,8 +125,14 @@ class Checks:
     def plan_takes(self, plan: Plan, now: int) -> None:
         """A take for each check that is due and has a free slot."""
         states = self._scheduling.states
-        due = {(part, name) for part, names in states.due.due_names(now).items() for name in names}
-        counts = collections.Counter(part for part, _ in due - plan.later | plan.at_once)
+        due = states.due.due_names(now)
+        counts = collections.Counter({part: len(names) for part, names in due.items()})
+        for part, name in (self._objects[name].key for name in plan.later - plan.at_once):
+            counts[part] -= name in due[part]
+        for part, name in (self._objects[name].key for name in plan.at_once):
+            counts[part] += name not in due[part]
+        if not any(counts.values()):
+            return
         free = self._scheduling.site.options.slots - sum(job.runner is None for job in states.running.plugins()) + plan.freed
         for part, count in sorted(counts.items()):
             if self._scheduling.is_open(part):
@@ -150,11 +167,9 @@ class Checks:
             return 2 * max(its.check_interval, its.retry_interval) + margin
         return its.freshness + margin if its.freshness is not None and self.is_in_period(its) else None
 
-    def overdue(self) -> Dict[str, Any]:
-        """The number of objects without a result in time, and of those that are promised one; by how many seconds which is overdue the longest.
-
-        The time of an object that is promised nothing begins when it is."""
-        now, promised, late = self._clock.moment(), 0, [(0, "")]
+    def overdue(self) -> Overdue:
+        """Looks over all objects. The time of an object that is promised nothing begins when it is."""
+        now, number, promised, by, name = self._clock.moment(), 0, 0, 0, ""
         for obj in self._objects.values():
             promise = self.promise(obj, now)
             if promise is None:
@@ -163,23 +178,23 @@ class Checks:
             promised += 1
             # The first check of an object may be as far off as its phase.
             since = obj.known_at if obj.phase is None else max(obj.known_at, obj.phase - obj.definition.check_interval)
-            if now - since > promise:
-                late.append((now - since - promise, obj.name))
-        by, name = max(late)
-        return {"overdue": len(late) - 1, "promised": promised, "overdue_by": by / 1000, "most_overdue": name}
+            late = now - since - promise
+            if late > 0:
+                number += 1
+                by, name = max((by, name), (late, obj.name))
+        return Overdue(number, promised, by, name)
 
     def figures(self) -> Dict[str, float]:
         """The figures of overdue objects, which are logged when they begin and end, and every ten minutes."""
         found, now = self.overdue(), self._clock.moment()
-        name = found.pop("most_overdue")
-        if found["overdue"] and (self._logged_at is None or now - self._logged_at >= LOG_AGAIN):
-            late = f"{name} is overdue by {found['overdue_by']:.0f} seconds"
-            self._log(f"not checked: {found['overdue']} of {found['promised']} objects have no result in time; {late}")
+        if found.number and (self._logged_at is None or now - self._logged_at >= LOG_AGAIN):
+            late = f"{found.name} is overdue by {found.by / 1000:.0f} seconds"
+            self._log(f"not checked: {found.number} of {found.promised} objects have no result in time; {late}")
             self._logged_at = now
-        elif not found["overdue"] and self._logged_at is not None:
+        elif not found.number and self._logged_at is not None:
             self._log("all objects have results in time again")
             self._logged_at = None
-        return found
+        return {"overdue": found.number, "promised": found.promised, "overdue_by": found.by / 1000}
 
 
 def next_in_phase(phase: int, interval: int, now: int) -> int:

@@ -52,7 +52,7 @@ class PassiveResults:
                 plan.calls += forced_take(obj.definition.part, obj.name, RESULT_FIRST, now)
             else:
                 plan.calls.append((obj.definition.part, Take(now), None))  # the limit of running checks was reached when it had to be taken
-                plan.later.add(obj.key)
+                plan.later.add(obj.name)
 
     def plan_reports(self, plan: Plan, now: int) -> None:
         for run in self._scheduling.states.running.owned_by(Owner.RESULT):

@@ -65,8 +65,9 @@ def chosen_remarks(members: Members, remarks: Iterable[Remark]) -> List[Remark]:
 
 
 def read_text(members: Members, member: str, most: int) -> str:
-    text = members.get(member, "")
-    require(isinstance(text, str) and text.strip(), f"{member} has to be a text that isn't empty", RequestFault)
+    text = members.get(member)
+    if not isinstance(text, str) or not text.strip():
+        raise RequestFault(f"{member} has to be a text that isn't empty")
     plain = plain_text(text, 2 * most).strip()
     require(len(plain.encode()) <= most, f"{member} has more than {most} bytes", RequestFault)
     return plain

@@ -50,6 +50,7 @@ class Loop:
 
     def _turn(self, begun: int) -> int:
         waits = [each() for each in self._before]
+        self._engine.requests.begin_turn()
         wanted = self._engine.turn()
         waits += [each() for each in self._after]
         if begun >= self._chores_at:
@@ -76,12 +77,15 @@ class Loop:
             self._poller.wait(0)
             return
         next_turn = next_turn_time(begun, wanted, shared)
-        self._poller.sleep((begun + BETWEEN_TURNS if next_turn is None else next_turn) - self._clock.moment())
+        self._sleep_until(begun + BETWEEN_TURNS if next_turn is None else next_turn)
         if self._poller.wait(0) or next_turn is not None or not self._poller.wait(wanted - self._clock.moment()):
             return
         now = self._clock.moment()
-        self._poller.sleep(wanted - now if wanted <= now + LONGEST_UNREPORTED else BETWEEN_TURNS)
+        self._sleep_until(wanted if wanted <= now + LONGEST_UNREPORTED else now + BETWEEN_TURNS)
         self._poller.wait(0)
+
+    def _sleep_until(self, at: float) -> None:
+        self._poller.sleep(at - self._clock.moment())
 
 
 def next_turn_time(begun: float, wanted: float, shared: Optional[float]) -> Optional[float]:

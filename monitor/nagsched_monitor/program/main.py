@@ -9,9 +9,9 @@ import shutil
 import sqlite3
 import sys
 import time
-from typing import Any, Callable, Dict, List, Optional
+from typing import Any, Dict, List, Optional
 
-from ..faults import MonitorFault, NotStored, raising, require, user_name
+from ..faults import MonitorFault, NotStored, raising, user_name
 from ..inputs.client import send_request
 from ..outputs.status_query import StatusUnavailable, clock_time, read_site_status, remark_lines, status_complaints, status_lines
 from ..site.site import read_site
@@ -23,7 +23,6 @@ from .site_reader import LIMIT as READING_LIMIT
 # How long a command waits for its answer, in seconds. A reload first reads the site.
 PATIENCE, RELOAD_PATIENCE = 30.0, READING_LIMIT + 30.0
 OBJECT = "a host's name, or host;description of a service"
-Command = Callable[[argparse.Namespace], Optional[int]]
 UNITS = {"s": 1, "m": 60, "h": 3_600, "d": 86_400}
 CODES = {"OK": 0, "UP": 0, "WARNING": 1, "CRITICAL": 2, "DOWN": 2, "UNKNOWN": 3}
 
@@ -150,44 +149,51 @@ def print_status(arguments: argparse.Namespace) -> int:
     return int(not lines or status.silent_seconds() is not None)
 
 
-def print_remarks(arguments: argparse.Namespace) -> None:
+def print_remarks(arguments: argparse.Namespace) -> int:
+    if arguments.id is not None:
+        arguments.command = "remove"
+        return ask_monitor(arguments)
     sys.stdout.write("".join(f"{line}\n" for line in remark_lines(read_site_status(arguments.folder).remarks, arguments.pattern)))
+    return 0
 
 
-def ask_monitor(arguments: argparse.Namespace) -> None:
+def ask_monitor(arguments: argparse.Namespace) -> int:
     members = ("name", "at", "force", "code", "output", "author", "text", "from", "until", "sticky", "persistent", "id")
-    request = {"do": arguments.command, **{name: value for name, value in vars(arguments).items() if name in members and value is not None}}
+    given = {member: getattr(arguments, member, None) for member in members}
+    request = {"do": arguments.command, **{member: value for member, value in given.items() if value is not None}}
     if arguments.command == "downtime":
         begin = request.setdefault("from", time.time())
         request["until"] = begin + (arguments.lasting if arguments.within is None else arguments.within)
         request.update({} if arguments.within is None else {"duration": arguments.lasting})
     patience = RELOAD_PATIENCE if arguments.command == "reload" else PATIENCE
     answer = json.loads(send_request(arguments.folder, json.dumps(request).encode(), patience) or b'{"error": "the monitor ended"}')
-    require("error" not in answer, answer.get("error"), MonitorFault)
+    if "error" in answer:
+        raise MonitorFault(answer["error"])
     print(answer_text(answer))
+    return 0
 
 
-def test_site(arguments: argparse.Namespace) -> None:
+def test_site(arguments: argparse.Namespace) -> int:
     site = read_site(arguments.folder, arguments.program)
     print(f"{len(site.objects)} objects, {len(site.setups)} parts")
     for warning in site.warnings:
         print(f"nagsched-monitor: {warning}", file=sys.stderr)
+    return 0
 
 
-def drop_calls(arguments: argparse.Namespace) -> None:
+def drop_calls(arguments: argparse.Namespace) -> int:
     Store(arguments.folder, print, is_calls_dropped=True).close()
+    return 0
 
 
 def main(given: Optional[List[str]] = None) -> int:
     arguments = parse_arguments(given)
-    if getattr(arguments, "id", None) is not None:
-        arguments.command = "remove"
     with contextlib.closing(Log()) as log:
         # A fault is printed after the lines of the log.
         with raising(SystemExit, "nagsched-monitor", MonitorFault, StatusUnavailable, NotStored, sqlite3.Error):
             if arguments.command is not None:
-                own: Dict[str, Command] = {"test": test_site, "status": print_status, "remarks": print_remarks, "drop-calls": drop_calls}
-                return own.get(arguments.command, ask_monitor)(arguments) or 0
+                own = {"test": test_site, "status": print_status, "remarks": print_remarks, "drop-calls": drop_calls}
+                return own.get(arguments.command, ask_monitor)(arguments)
             monitor = Monitor(arguments, log)
         with contextlib.closing(monitor):
             return monitor.run()

@@ -11,7 +11,7 @@ from typing import Any, Callable, Dict, Generator, List, Optional
 
 from ..core.engine import Engine
 from ..core.requests import Request
-from ..faults import ConversationEnded, MonitorFault, NotStored, require
+from ..faults import ConversationEnded, MonitorFault, NotStored
 from ..inputs import control
 from ..model.clock import Clock
 from ..outputs.changes import Notifier, change_line
@@ -72,18 +72,22 @@ class Monitor:
 
     def _make_helpers(self, outputs: Options) -> List[HelperProcess]:
         """The processes next to the monitor that its options ask for."""
-        folder, link = str(self._folder), outputs.page_url or (f"http://{outputs.page}/" if outputs.page else "")
+        folder, asked, link = str(self._folder), [], outputs.page_url or (f"http://{outputs.page}/" if outputs.page else "")
         notifies = ["notifies"] if outputs.on_change is not None or outputs.alertmanager else []
-        alerts = [addresses.shown_url(url) for url in outputs.alertmanager[:1]] or [""]
-        if outputs.page is not None and not addresses.is_loopback(outputs.page):
-            self.log(f"the page on {outputs.page} is shown to everybody who reaches this address")
-        # Each module with its arguments, if none of them is missing.
-        asked: List[List[Any]] = [
-            ["outputs.nagios_files", folder, outputs.nagios_files, *notifies], ["outputs.perfdata", folder, outputs.perfdata],
-            ["outputs.page", outputs.page, folder, *alerts, *outputs.page_name], ["outputs.livestatus", outputs.livestatus, folder, *notifies],
-            ["outputs.metrics", folder, outputs.textfile], *(["outputs.alertmanager", url, folder, link] for url in outputs.alertmanager),
-        ]
-        return [HelperProcess(module, given, self.log) for module, *given in asked if None not in given]
+        if outputs.nagios_files is not None:
+            asked.append(["outputs.nagios_files", folder, outputs.nagios_files, *notifies])
+        if outputs.perfdata is not None:
+            asked.append(["outputs.perfdata", folder, outputs.perfdata])
+        if outputs.page is not None:
+            if not addresses.is_loopback(outputs.page):
+                self.log(f"the page on {outputs.page} is shown to everybody who reaches this address")
+            asked.append(["outputs.page", outputs.page, folder, *[addresses.shown_url(url) for url in outputs.alertmanager[:1] or [""]], *outputs.page_name])
+        if outputs.livestatus is not None:
+            asked.append(["outputs.livestatus", outputs.livestatus, folder, *notifies])
+        if outputs.textfile is not None:
+            asked.append(["outputs.metrics", folder, outputs.textfile])
+        asked += [["outputs.alertmanager", url, folder, link] for url in outputs.alertmanager]
+        return [HelperProcess(module, given, self.log) for module, *given in asked]
 
     def _open_scheduling(self, site: Site) -> Scheduling:
         """The site with its schedulers. If the disk is full or a scheduler can't be started, a few more tries follow."""
@@ -103,8 +107,9 @@ class Monitor:
     def _test_slots(self, site: Site) -> None:
         """Refuses more slots than the limit of open files allows."""
         wanted = site.options.slots * FILES_OF_PLUGIN + OTHER_FILES
-        slots = f"monitor.json: slots: {site.options.slots} plugins may take {wanted} open files"
-        require(wanted <= self._file_limit, f"{slots}, and the limit is {self._file_limit}: raise it, or have fewer slots", MonitorFault)
+        if wanted > self._file_limit:
+            slots = f"monitor.json: slots: {site.options.slots} plugins may take {wanted} open files"
+            raise MonitorFault(f"{slots}, and the limit is {self._file_limit}: raise it, or have fewer slots")
 
     def run(self) -> int:
         """Works until it is asked to stop; returns the exit status."""

@@ -6,7 +6,7 @@ those of its mirrors are calls of one turn, which are stored together.
 When a site gets other parts, the states of all its schedulers are combined, and each part continues from its share."""
 import json
 import subprocess
-from typing import AbstractSet, Any, Dict, List, Mapping, Optional, Sequence, Tuple
+from typing import AbstractSet, Any, Dict, List, Mapping, Optional, Sequence, Set, Tuple
 
 from ..faults import MonitorFault, raising, require
 from ..model.objects import MIRROR_FIRST, ObjectKey, Owner, Run, RunTable
@@ -25,6 +25,7 @@ LIMIT = 60.0  # the limit for the program's test of a state, in seconds
 class Mirrors:
     def __init__(self, names: Mapping[int, AbstractSet[str]], running: RunTable) -> None:
         self.names, self._running = names, running
+        self._expected: Set[ObjectKey] = set()
 
     def parts_of(self, name: str) -> Sequence[int]:
         return [part for part, names in self.names.items() if name in names]
@@ -37,6 +38,9 @@ class Mirrors:
         key = part, name
         if isinstance(answer, Taken):
             self._running[key] = Run(key, answer.run, Owner.ORIGINAL)
+            self._expected.discard(key)
+        elif isinstance(call, Reschedule):
+            self._expected.add(key)
         elif isinstance(call, Report):
             self._running.pop(key, None)
         return True
@@ -57,12 +61,14 @@ class Mirrors:
                 self._running.pop(run.key, None)
         return Mirrors(names, self._running)
 
-    def missing(self) -> List[ObjectKey]:
-        """The mirrors that aren't running."""
-        return [(part, name) for part, names in self.names.items() for name in sorted(each for each in names if (part, each) not in self._running)]
+    def take_missing(self) -> List[ObjectKey]:
+        """The mirrors that should have been taken since the last call, and weren't. The list is empty unless another object came before them."""
+        left, self._expected = sorted(self._expected), set()
+        return left
 
     def take_calls(self, moment: int) -> List[PlannedCall]:
-        return [call for part, name in self.missing() for call in forced_take(part, name, MIRROR_FIRST, moment)]
+        missing = [(part, name) for part, names in self.names.items() for name in sorted(each for each in names if (part, each) not in self._running)]
+        return [call for part, name in missing for call in forced_take(part, name, MIRROR_FIRST, moment)]
 
     def report_calls(self, original: int, report: Report, words: str, moment: int) -> List[PlannedCall]:
         """The calls that report a result to an object, in its part, and to its mirrors, which are taken again after that."""
@@ -91,12 +97,17 @@ def merge_states(states: Mapping[int, bytes], mirrored: Mapping[int, AbstractSet
     for name, definition in site.objects.items():
         if name in found:
             part, member = found[name]
-            if part != definition.part and member["run"] is not None:  # its run is abandoned
-                member = {**member, "run": None, "next_check": moment if member["next_check"] is None else member["next_check"]}
-            members[definition.part].append(member)
+            members[definition.part].append(member if part == definition.part else without_run(member, moment))
     for part, names in site.mirrors.items():
         members[part].extend({**found[name][1], **NEVER_CHECKED} for name in sorted(names) if name in found)
     return {part: ENCODER.encode({"format": 1, "objects": of_part, "runs": runs, "start": moment}).encode() for part, of_part in members.items()}
+
+
+def without_run(member: Member, moment: int) -> Member:
+    """An object whose run, if there is one, is abandoned at a moment."""
+    if member["run"] is None:
+        return member
+    return {**member, "run": None, "next_check": moment if member["next_check"] is None else member["next_check"]}
 
 
 def carry_over(program: str, site: Site, part: int, state: bytes) -> List[str]:
@@ -108,6 +119,11 @@ def carry_over(program: str, site: Site, part: int, state: bytes) -> List[str]:
         ran = subprocess.run([program, "check", "--resume"], input=given, stdout=subprocess.PIPE, check=False, timeout=LIMIT)
     lines = ran.stdout.decode(errors="replace").splitlines()
     require(not ran.returncode, f"the saved state can't be taken over: {'; '.join(lines)}", MonitorFault)
-    # The changes of objects that aren't mirrors, and abandoned runs.
-    others = [line for line in lines if line.split(" ", 2)[-1] not in site.mirrors.get(part, ())]
-    return [line for line in others if line.startswith(("changed ", "given_up ")) and line != "given_up 0"]
+    mirrors = site.mirrors.get(part, frozenset())
+    return [line for line in lines if is_told_change(line, mirrors)]
+
+
+def is_told_change(line: str, mirrors: AbstractSet[str]) -> bool:
+    """Whether a line of a check names a change of an object that isn't a mirror, or abandoned runs."""
+    word, _, rest = line.partition(" ")
+    return word == "changed" and rest.partition(" ")[2] not in mirrors or word == "given_up" and rest != "0"

@@ -155,8 +155,11 @@ class PartScheduler:
                     self._log(f"the scheduler of part {self.generation.part + 1} answers again")
                 self.trouble = None
                 return answered
-            except (ConversationEnded, NotStored) as error:
+            except ConversationEnded as error:
                 answered += self._handle_end(str(error))
+            except NotStored as error:
+                self._handle_end(str(error))
+                break
         self._not_before = self._clock.moment() + PAUSE
         return answered
 
@@ -222,7 +225,8 @@ class PartScheduler:
 
     def state(self) -> bytes:
         """The scheduler's state. Raises `ConversationEnded` if it hasn't answered all calls, or can't be started."""
-        require(not self.pending, self.trouble or f"the scheduler of part {self.generation.part + 1} hasn't answered all calls", ConversationEnded)
+        if self.pending:
+            raise ConversationEnded(self.trouble or f"the scheduler of part {self.generation.part + 1} hasn't answered all calls")
         return self._run_query(lambda conversation: conversation.save())
 
     def close_conversation(self, is_killed: bool = True) -> None:

@@ -1,23 +1,23 @@
 """The schedulers of a site and their answers: calls are first stored together, then made together, and then their answers are applied."""
 import json
 from dataclasses import dataclass, field
-from typing import AbstractSet, Any, Callable, Dict, List, Mapping, NamedTuple, Optional, Sequence, Set
+from typing import AbstractSet, Callable, Dict, List, Mapping, NamedTuple, Optional, Sequence, Set
 
-from ..faults import ConversationEnded, NotStored, require
+from ..faults import ConversationEnded, NotStored
 from ..model.clock import Clock
 from ..model.objects import FIRST_TIME, ObjectKey, ObjectState, ObjectStates
 from ..model.protocol import Answer, Call, Report, Standing, Status, call_line, object_name, read_call
 from ..site.json_files import members_by_name
 from ..site.site import Site
 from ..store.rows import Generation, StoredCall, StoredChange
+from ..store.generations import begin_generations, save_generation
 from ..store.remark_table import RemarkTable
 from ..store.status_table import StandingTable
-from ..store.store import Store, Write, begin_generations, save_generation, store_calls, store_change
+from ..store.store import Store, Write, store_calls, store_change
 from .mirroring import Mirrors, PlannedCall, carry_over, merge_states
 from .schedulers import Conversation, ConversationFactory, PartScheduler
 
 LONG_REPLAY = 5_000  # the number of calls made again after which a part is saved at once
-Action = Callable[[], None]
 
 
 @dataclass
@@ -27,24 +27,14 @@ class Plan:
 
     calls: List[PlannedCall] = field(default_factory=list)
     writes: List[Write] = field(default_factory=list)
-    then: List[Action] = field(default_factory=list)
-    last: List[Action] = field(default_factory=list)
+    then: List[Callable[[], None]] = field(default_factory=list)
+    last: List[Callable[[], None]] = field(default_factory=list)
     # Plugins that end with this plan, and the objects whose next checks it sets to now, and to later.
     freed: int = 0
-    at_once: Set[ObjectKey] = field(default_factory=set)
-    later: Set[ObjectKey] = field(default_factory=set)
+    at_once: Set[str] = field(default_factory=set)
+    later: Set[str] = field(default_factory=set)
     # The objects whose next checks are set by requests: nothing else sets them in this turn.
     requested: Set[str] = field(default_factory=set)
-    answer: Optional[Dict[str, Any]] = None  # the answer to the request that it is for
-
-    def add(self, step: "Plan") -> None:
-        """Adds the step of a request."""
-        self.calls += step.calls
-        self.writes += step.writes
-        self.then += step.then
-        self.last += step.last
-        self.at_once |= step.at_once
-        self.requested |= step.requested
 
 
 class ObjectAnswer(NamedTuple):
@@ -86,15 +76,15 @@ class Scheduling:
         self._query_unknown()
         self._standings.settle(self.states.objects)
 
+    def _start(self, generation: Generation) -> Conversation:
+        return self._converse(self._program, generation.setup, generation.start, generation.saved)
+
     def _open_parts(self, generations: Mapping[int, Generation], others: AbstractSet[int]) -> None:
         """Continues with these generations. Parts that aren't others stay open."""
-        def start(its: Generation) -> Conversation:
-            return self._converse(self._program, its.setup, its.start, its.saved)
-
         before, self.parts = self.parts, {}
         for number, generation in generations.items():
             if number in others:
-                self.parts[number] = PartScheduler(generation, self._store, self._clock, self._log, start)
+                self.parts[number] = PartScheduler(generation, self._store, self._clock, self._log, self._start)
             else:
                 self.parts[number] = before.pop(number)
                 self.parts[number].generation = generation
@@ -112,7 +102,8 @@ class Scheduling:
                 self._query_standings(number, own)
         self._exchange(is_again=True)
         for number, part in self.parts.items():
-            require(not part.pending, f"the scheduler of part {number + 1} can't be opened: {part.trouble}", ConversationEnded)
+            if part.pending:
+                raise ConversationEnded(f"the scheduler of part {number + 1} can't be opened: {part.trouble}")
 
     def _query_unknown(self) -> None:
         """Asks for the standing of each object whose standing isn't known yet, and takes its first time as its phase."""
@@ -136,13 +127,16 @@ class Scheduling:
         changed = self._change_site(site)
         self._has_unknown = True
         self._query_new()
+        try:
+            self._standings.settle(self.states.objects)
+        except NotStored as fault:
+            self._log(f"since when objects are in their states isn't known: {fault}")
         return changed
 
     def _query_new(self) -> None:
         """Asks for the standings of new objects. If they can't be had now, they are asked for with the next calls."""
         try:
             self._query_unknown()
-            self._standings.settle(self.states.objects)
             self._has_unknown = False
         except (ConversationEnded, NotStored) as error:
             self._log(f"the states of new objects aren't known yet: {error}")
@@ -179,10 +173,9 @@ class Scheduling:
         self._open_parts(generations, others)
         return changed
 
-    def _write(self, *writes: Write, is_renewed: bool = False) -> None:
-        """Writes these, with all that waits to be written; into a new database if it is renewed."""
-        write = self._store.renew if is_renewed else self._store.write
-        write(*self._pending_writes, *self._standings.writes(), *self.remarks.writes(), *writes)
+    def _write(self, *writes: Write) -> None:
+        """Writes these, with all that waits to be written."""
+        self._store.write(*self._pending_writes, *self._standings.writes(), *self.remarks.writes(), *writes)
         self._pending_writes = []
         self._standings.clear_marks()
         self.remarks.clear_marks()
@@ -229,7 +222,7 @@ class Scheduling:
             call = read_call(stored.line) if stored.call is None else stored.call
             if not self.mirrors.apply_answer(stored.part, call, answer):
                 answers.append(self._apply_answer(stored, call, answer, is_again))
-        for number, name in [] if is_again else [key for key in self.mirrors.missing() if self.is_open(key[0])]:
+        for number, name in self.mirrors.take_missing():
             self._log(f"the scheduler of part {number + 1} took another object than the mirror of {name}; it is tried again")
         return answers
 
@@ -266,12 +259,11 @@ class Scheduling:
 
     def save(self, number: int) -> None:
         """Saves the state of a part's scheduler, and drops the calls that are part of all saved states."""
-        part = self.parts[number]
-        part.replayed = 0
-        state = part.state()
+        state = self.parts[number].state()
         for name in self._read_state(number, state):
             self._log(f"{name}: its scheduler has it otherwise than the monitor had; the scheduler counts")
         self._standings.write_soon({})
+        part = self.parts[number]
         generation = part.generation._replace(saved=state, last_call=self._store.last_call)
         others = [each.generation.last_call for each in self.parts.values() if each is not part]
         self._write(save_generation(generation, min(others, default=generation.last_call)))
@@ -282,17 +274,24 @@ class Scheduling:
         last_call = self._store.last_call
         generations = {number: part.generation._replace(saved=part.state(), last_call=last_call) for number, part in self.parts.items()}
         self._standings.write_soon(self.states.objects)
-        self._write(begin_generations(generations.values()), *writes, *self.remarks.rows(), is_renewed=True)
+        self._store.renew(begin_generations(generations.values()), *writes, *self._pending_writes, *self._standings.writes(), *self.remarks.rows())
+        self._pending_writes = []
+        self._standings.clear_marks()
+        self.remarks.clear_marks()
         for number, generation in generations.items():
             self.parts[number].generation = generation
 
-    def has_long_replay(self, number: int) -> bool:
-        """Whether a part made many calls again and can be saved, so that the next start doesn't make them again."""
-        return self.is_open(number) and self.parts[number].replayed >= LONG_REPLAY
+    def pop_long_replay(self) -> Optional[int]:
+        """A part that made many calls again and can be saved, so that the next start doesn't make them again. Each such start is returned once."""
+        for number, part in self.parts.items():
+            if part.replayed >= LONG_REPLAY and self.is_open(number):
+                part.replayed = 0
+                return number
+        return None
 
     def longest_unsaved(self) -> int:
-        """The part to save next: of those that can be saved now, one that made many calls again, or the one whose saved state is the oldest."""
-        return min(self.parts, key=lambda number: (not self.is_open(number), not self.has_long_replay(number), self.parts[number].generation.last_call))
+        """The part whose saved state is the oldest, among those that can be saved now if there are any."""
+        return min(self.parts, key=lambda number: (not self.is_open(number), self.parts[number].generation.last_call))
 
     def close(self) -> None:
         for part in self.parts.values():

@@ -30,15 +30,14 @@ RESTORED = (*(f"checks.{result}" for result in RESULTS), *BUCKETS, "late.sum", "
             "spooled", "spooled_at", "unspooled")
 
 
-class Counters(DefaultDict[str, float]):
-    """The figures that continue after a restart, by their names."""
-
+class Counters:
     def __init__(self, stored: Mapping[str, float], clock: Clock) -> None:
-        super().__init__(float, {name: stored[name] for name in RESTORED if name in stored})
         self._clock = clock
+        self._values: DefaultDict[str, float] = collections.defaultdict(float, {name: stored[name] for name in RESTORED if name in stored})
         self._started_at = clock.wall()
         # Since this monitor began: the number of results, and the most milliseconds by which a check was late.
         self.result_count = self.latest_start = 0
+        self._written: Dict[str, float] = {}
         self._written_at = clock.moment() - EVERY
         # At moments of the last minute: the number of results until then, and the latest start since the moment before.
         self._moments: Deque[Tuple[int, int, int]] = collections.deque([(clock.moment(), 0, 0)])
@@ -46,26 +45,33 @@ class Counters(DefaultDict[str, float]):
 
     def count_result(self, result: str) -> None:
         """A result was reported: the state in which it left its object, `given_up` or `refused`."""
-        self[f"checks.{result}"] += 1
+        self._values[f"checks.{result}"] += 1
         if result not in ("given_up", "refused", "not_started"):
             self.result_count += 1
 
     def count(self, figure: str) -> None:
-        self[figure] += 1
+        self._values[figure] += 1
+
+    def note(self, figures: Mapping[str, float]) -> None:
+        self._values.update(figures)
 
     def count_start(self, late: int) -> None:
         """A check began late, by a number of milliseconds."""
         seconds = max(0, late) / 1000
-        self[BUCKETS[bisect.bisect_left(BOUNDS, seconds)]] += 1
-        self["late.sum"] += seconds
+        self._values[BUCKETS[bisect.bisect_left(BOUNDS, seconds)]] += 1
+        self._values["late.sum"] += seconds
         self.latest_start, self._latest_lately = max(self.latest_start, late), max(self._latest_lately, late)
+
+    def count_save(self) -> None:
+        self._values["saves"] += 1
+        self._values["saved_at"] = self._clock.wall()
 
     def are_due(self, now: int) -> bool:
         return now - self._written_at >= EVERY
 
-    def figures(self, calls: int, others: Mapping[str, float]) -> Dict[str, float]:
-        """All figures, which are written now, with some others. `calls` is the number of calls so far."""
-        now = self._written_at = self._clock.moment()
+    def changed_figures(self, calls: int, others: Mapping[str, float]) -> Dict[str, float]:
+        """The figures that have changed since they were written last, with some others. `calls` is the number of calls so far."""
+        now = self._clock.moment()
         self._moments.append((now, self.result_count, self._latest_lately))
         self._latest_lately = 0
         while len(self._moments) > 2 and self._moments[1][0] <= now - MINUTE:
@@ -75,4 +81,14 @@ class Counters(DefaultDict[str, float]):
         lately = max(latest for _, _, latest in self._moments)
         of_this_run = {"calls": calls, "begun_at": self._started_at, "written_at": self._clock.wall(), "checks_a_second": rate, "moment": now,
                        "uptime": time.clock_gettime(time.CLOCK_BOOTTIME)}
-        return {**self, **of_this_run, **others, "latest_start": self.latest_start / 1000, "latest_start_lately": lately / 1000}
+        values = {**self._values, **of_this_run, **others, "latest_start": self.latest_start / 1000, "latest_start_lately": lately / 1000}
+        return {name: value for name, value in values.items() if self._written.get(name) != value}
+
+    def write_all(self) -> None:
+        """Has all figures written next."""
+        self._written.clear()
+        self._written_at -= EVERY
+
+    def set_written(self, figures: Mapping[str, float]) -> None:
+        self._written_at = self._clock.moment()
+        self._written.update(figures)

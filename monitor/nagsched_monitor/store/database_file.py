@@ -7,9 +7,9 @@ import sqlite3
 import struct
 from typing import Tuple
 
-from ..faults import MonitorFault, NotStored, raising, require
+from ..faults import MonitorFault, NotStored, raising
 from ..system.poller import keep_trying
-from .rows import INDEXES, INSERTS, TABLES, VERSION, checksum_of
+from .rows import GROWN, INDEXES, INSERTS, TABLES, VERSION, checksum_of
 
 # How long a start waits for the plugins of a monitor that was killed, which are killed too, in seconds.
 PATIENCE = 10.0
@@ -23,25 +23,28 @@ CHECKPOINTS, AT = struct.Struct("=I28xI"), 96
 RENEW = "or write what the monitor has in memory to a new one: nagsched-monitor {} new-database"
 
 
-class DatabaseFile(contextlib.ExitStack):
+class DatabaseFile:
     """The file, locked. It and SQLite's index stay open until the database is closed: SQLite's locks end when any descriptor of a file is closed."""
 
     def __init__(self, path: pathlib.Path) -> None:
         """Makes the file if it isn't there, for its owner only, and locks it. The runners have the lock too, until their plugins are gone."""
-        super().__init__()
         self.path = path
         with raising(MonitorFault, path):
             self.number = os.open(path, os.O_RDWR | os.O_CREAT | os.O_CLOEXEC, 0o600)
-        self.callback(os.close, self.number)
+        self._files = [self.number]
         try:
             keep_trying(lambda: fcntl.flock(self.number, fcntl.LOCK_EX | fcntl.LOCK_NB), PATIENCE)
         except BlockingIOError:
             self.close()
             raise MonitorFault(f"another monitor runs on {path.parent}") from None
 
+    def close(self) -> None:
+        for file in self._files:
+            os.close(file)
+
     def watch(self, database: sqlite3.Connection) -> None:
         self._database, self._index = database, os.open(f"{self.path}-shm", os.O_RDONLY | os.O_CLOEXEC)
-        self.callback(os.close, self._index)
+        self._files.append(self._index)
         self.note_state()
 
     def note_state(self) -> None:
@@ -76,37 +79,52 @@ class DatabaseFile(contextlib.ExitStack):
 
     def test(self) -> None:
         """Raises `NotStored` if the file isn't the one that this monitor wrote any more. Other programs may write through SQLite."""
+        why = ""
         try:
-            is_same = os.path.samestat(os.fstat(self.number), os.stat(self.path))
-            why = REPLACED if not is_same else OVERWRITTEN if self._is_overwritten() else ""
+            here, there = os.fstat(self.number), os.stat(self.path)
+            if (here.st_dev, here.st_ino) != (there.st_dev, there.st_ino):
+                why = REPLACED
+            elif self._is_overwritten():
+                why = OVERWRITTEN
         except OSError:
             why = GONE
-        require(not why, f"{self.path} {why} {RENEW.format(self.path.parent)}", NotStored)
+        if why:
+            raise NotStored(f"{self.path} {why} {RENEW.format(self.path.parent)}")
 
 
-def prepare(database: sqlite3.Connection, path: pathlib.Path) -> None:
-    """Gives an open database all tables. Nothing is written if it has them: the disk may be full."""
-    for setting in ("journal_mode=WAL", "synchronous=FULL", "wal_autocheckpoint=1000", f"journal_size_limit={LARGEST_LOG}"):
-        database.execute(f"PRAGMA {setting}")
-    database.execute("BEGIN IMMEDIATE")
-    migrate(database, path)
-    for index in INDEXES:
-        database.execute(f"CREATE INDEX IF NOT EXISTS {index}")
-    database.execute("COMMIT")
+def open_database(path: pathlib.Path) -> sqlite3.Connection:
+    """Opens a database, which then has all tables. Raises `MonitorFault` if it is of a later version, and `sqlite3.Error`."""
+    database = sqlite3.connect(path, isolation_level=None, timeout=5)
+    try:
+        for setting in ("journal_mode=WAL", "synchronous=FULL", "wal_autocheckpoint=1000", f"journal_size_limit={LARGEST_LOG}"):
+            database.execute(f"PRAGMA {setting}")
+        database.execute("BEGIN IMMEDIATE")
+        migrate(database, path)
+        for table, members in TABLES.items():
+            database.execute(f"CREATE TABLE IF NOT EXISTS {table} (id INTEGER PRIMARY KEY, {members}, checksum TEXT)")
+        for index in INDEXES:
+            database.execute(f"CREATE INDEX IF NOT EXISTS {index}")
+        database.execute("COMMIT")
+    except BaseException:
+        database.close()
+        raise
+    return database
 
 
 def migrate(database: sqlite3.Connection, path: pathlib.Path) -> None:
-    """Makes the tables, and takes over those of a version before: some rows had fewer members. Raises `MonitorFault` if it is of a later version."""
+    """Takes over a database of a version before: some rows had fewer members."""
     (version,) = database.execute("PRAGMA user_version").fetchone()
-    require(version <= VERSION, f"{path}: it has version {version}, and this monitor reads versions up to {VERSION}", MonitorFault)
-    for table, members in TABLES.items():
-        new = [None] * (members.count(",") + 3 - len(database.execute(f"PRAGMA table_info({table})").fetchall()))
+    if version > VERSION:
+        raise MonitorFault(f"{path}: it has version {version}, and this monitor reads versions up to {VERSION}")
+    if version == VERSION:
+        return  # nothing is written: the disk may be full
+    for table in sorted({table for since, table in GROWN if version < since}):
+        new = [None] * sum(version < since and table == each for since, each in GROWN)
         rows = []
-        if version < VERSION and new and database.execute("SELECT 1 FROM sqlite_master WHERE name = ?", (table,)).fetchone():
+        if database.execute("SELECT 1 FROM sqlite_master WHERE name = ?", (table,)).fetchone():
             rows = [row for row in database.execute(f"SELECT * FROM {table}") if row[-1] == checksum_of(table, row[0], row[1:-1])]
             database.execute(f"DROP TABLE {table}")
-        database.execute(f"CREATE TABLE IF NOT EXISTS {table} (id INTEGER PRIMARY KEY, {members}, checksum TEXT)")
+        database.execute(f"CREATE TABLE {table} (id INTEGER PRIMARY KEY, {TABLES[table]}, checksum TEXT)")
         for number, *cells, _ in rows:
             database.execute(INSERTS[table], (number, *cells, *new, checksum_of(table, number, [*cells, *new])))
-    if version < VERSION:
-        database.execute(f"PRAGMA user_version = {VERSION}")
+    database.execute(f"PRAGMA user_version = {VERSION}")

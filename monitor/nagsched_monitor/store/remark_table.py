@@ -9,7 +9,7 @@ from ..model.clock import Clock
 from ..model.objects import ObjectState
 from ..model.remarks import Remark, holding_remarks, remarks_for
 from .rows import checksum_of
-from .store import Store, Write, delete, insert, store_figures
+from .store import Store, Write, all_of, delete, insert
 
 LOOK_EVERY = 1.0  # how often remarks are compared with the time, in seconds
 LAST = "last_remark"  # the figure with the greatest number of a remark
@@ -116,7 +116,7 @@ class RemarkTable:
     def writes(self) -> List[Write]:
         """The rows that have changed by themselves."""
         rows = [store_remark(self.remarks[number]) if number in self.remarks else delete("remarks", "id = ?", number) for number in self._changed]
-        taken = [] if self._taken is None else [insert("settings", None, TAKEN, self._taken), store_figures({LAST: self._last_id})]
+        taken = [] if self._taken is None else [insert("settings", None, TAKEN, self._taken), insert("figures", None, LAST, float(self._last_id))]
         return [*rows, *taken]
 
     def clear_marks(self) -> None:
@@ -125,11 +125,16 @@ class RemarkTable:
         self._taken = None
 
     def rows(self) -> List[Write]:
-        return [*map(store_remark, self.remarks.values()), store_figures({LAST: self._last_id})]
+        return [*map(store_remark, self.remarks.values()), insert("figures", None, LAST, float(self._last_id))]
 
 
 def store_remark(remark: Remark) -> Write:
     return insert("remarks", *remark)
+
+
+def store_new_remark(remark: Remark) -> Write:
+    """A new remark, whose number isn't given again."""
+    return all_of(store_remark(remark), insert("figures", None, LAST, float(remark.id)))
 
 
 def end_remark(remark: Remark) -> Write:

@@ -43,7 +43,9 @@ LOSSES: Dict[str, str] = {
     "remarks": "an acknowledgement, a downtime or a comment is gone, and people may be notified of its object",
 }
 ONLY_STORED = ("changes", "outbox", "not_taken", "settings")  # the tables whose rows a monitor hasn't in memory
-VERSION = 3  # the version of these tables: tables grow at their ends
+# The version of these tables. Those that have grown since a version got the last member.
+VERSION = 3
+GROWN = ((2, "standings"), (3, "standings"), (3, "outbox"))
 REMARKS = f"SELECT {', '.join(Remark._fields)} FROM remarks ORDER BY id"
 INSERTS: Dict[str, str] = {
     table: f"INSERT OR REPLACE INTO {table} VALUES ({','.join('?' * (len(members.split(',')) + 2))})" for table, members in TABLES.items()

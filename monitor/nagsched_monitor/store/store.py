@@ -8,22 +8,19 @@
     damaged       rows of other tables that were changed since they were written
 
 `LOSSES` says what the others are for. Each row has a checksum over its table and its members, which shows whether the row was changed since."""
-import collections
 import contextlib
-import itertools
 import json
-import operator
 import os
 import pathlib
 import sqlite3
 import tempfile
-from typing import Any, Callable, ClassVar, Dict, Iterable, List, Mapping, Optional, Sequence, Set, Tuple, TypeVar
+from typing import Any, Callable, Dict, Iterable, List, Mapping, Optional, Sequence, Set, Tuple
 
-from ..faults import MonitorFault, NotStored, raising, require
+from ..faults import MonitorFault, NotStored, raising
 from ..model.objects import StateHistory
 from ..model.protocol import GREATEST
 from ..model.remarks import Remark
-from .database_file import LARGEST_LOG, DatabaseFile, prepare
+from .database_file import LARGEST_LOG, DatabaseFile, open_database
 from .rows import INSERTS, LOSSES, ONLY_STORED, REMARKS, TABLES, Cell, Generation, StoredCall, StoredChange, StoredResult, StoredStanding
 from .rows import checksum_of, read_remarks
 
@@ -31,14 +28,6 @@ Write = Callable[["Store"], object]  # it is carried out together with others, o
 MOST_REQUESTS = 1_000  # the number of stored answers to numbered requests
 # The advice after damage to what schedulers continue from.
 CONTINUE = "continue from the last saved state with: nagsched-monitor {} drop-calls"
-MOST_UNSPOOLED = 100_000  # the number of calls that are kept for the spool of performance data
-Made = TypeVar("Made")
-Query = Callable[["Store"], Made]
-
-
-def reads(query: str, made: Callable[[List[Any]], Made]) -> Query[Made]:
-    """A method of a store, which makes something of the rows of a query."""
-    return lambda store: made(store._read(query))
 
 
 class Store:
@@ -54,11 +43,11 @@ class Store:
     def _open(self, is_calls_dropped: bool = False) -> None:
         """Opens the file, and tests its rows."""
         with contextlib.ExitStack() as opened:
-            self.file = opened.enter_context(DatabaseFile(self.path))
+            self.file = DatabaseFile(self.path)
+            opened.callback(self.file.close)
             with raising(MonitorFault, self.path, sqlite3.Error):
-                self._database = sqlite3.connect(self.path, isolation_level=None, timeout=5)
+                self._database = open_database(self.path)
                 opened.callback(self._database.close)
-                prepare(self._database, self.path)
                 self.file.watch(self._database)
                 if is_calls_dropped:
                     self._drop_calls()
@@ -66,8 +55,8 @@ class Store:
                 self.last_call = max(self.greatest("calls"), self.greatest("generations", "last_call"), self.greatest("changes"))
                 self.last_result = self.greatest("passive")
                 # The number of each object's row. A new object gets the next one, so that rows that are written together can be next to each other.
-                count = itertools.count(self.greatest("standings") + 1)
-                self.row_numbers: Dict[str, int] = collections.defaultdict(count.__next__, self._read("SELECT name, id FROM standings"))
+                self._row_numbers: Dict[str, int] = dict(self._read("SELECT name, id FROM standings"))
+                self._last_row = self.greatest("standings")
             self._opened = opened.pop_all()
 
     def _drop_calls(self) -> None:
@@ -115,8 +104,9 @@ class Store:
         for table in (each for each in TABLES if each not in ("changes", "damaged")):
             self._sound_rows(table, self._database.execute(f"SELECT * FROM {table} ORDER BY id").fetchall())
         first, last, count = self._database.execute("SELECT min(id), max(id), count(*) FROM calls").fetchone()
-        missing = last - first + 1 - count if count else 0
-        require(not missing, f"{self.path}: {missing} rows of calls are missing: restore the file, or {CONTINUE.format(self.path.parent)}", MonitorFault)
+        if count and last - first + 1 != count:
+            missing = f"{last - first + 1 - count} rows of calls are missing"
+            raise MonitorFault(f"{self.path}: {missing}: restore the file, or {CONTINUE.format(self.path.parent)}")
 
     def _sound_rows(self, table: str, rows: Sequence[Sequence[Cell]]) -> List[Sequence[Cell]]:
         """Those of these rows that are as they were written, without their checksums. Other rows are a fault, or are set aside if only people read them."""
@@ -127,7 +117,8 @@ class Store:
                 sound.append(row[:-1])
                 continue
             changed = f"row {number!r} of {table} was changed since it was written"
-            require(table in LOSSES, f"{self.path}: {changed}: restore the file, or {CONTINUE.format(self.path.parent)}", MonitorFault)
+            if table not in LOSSES:
+                raise MonitorFault(f"{self.path}: {changed}: restore the file, or {CONTINUE.format(self.path.parent)}")
             self._log(f"{changed}: it is in the table damaged now, and {LOSSES[table]}")
             with contextlib.suppress(NotStored):
                 self.write(insert("damaged", None, table, ascii(row)), delete(table, "id = ?", number))
@@ -157,22 +148,39 @@ class Store:
         starts = [generation.start for generation in self.generations().values()]
         return max([0, int(self.figures().get("moment", 0)), *starts, *(int(json.loads(line)[-1]) for (line,) in lines)])
 
-    switches = reads("SELECT name, is_on FROM switches", lambda rows: {name: bool(on) for name, on in rows})
-    waiting_results = reads("SELECT id, name, code, words FROM passive ORDER BY id", lambda rows: [StoredResult(*row) for row in rows])
-    requests: ClassVar[Query[Dict[str, str]]] = reads("SELECT number, answer FROM requests ORDER BY id", dict)
-    remarks = reads(REMARKS, read_remarks)
-    standings = reads(f"SELECT {', '.join(StoredStanding._fields)} FROM standings", lambda rows: [StoredStanding(*row) for row in rows])
-    figures: ClassVar[Query[Dict[str, float]]] = reads("SELECT name, value FROM figures", dict)
-    # The documents that the command for changes hasn't taken, the oldest first, with their moments; their number, and the moment of the first.
-    outbox: ClassVar[Query[List[Tuple[int, str, Optional[int]]]]] = reads("SELECT id, document, moment FROM outbox ORDER BY id", list)
-    waiting_changes: ClassVar[Query[Tuple[int, Optional[int]]]] = reads("SELECT count(*), min(moment) FROM outbox", operator.itemgetter(0))
+    def switches(self) -> Dict[str, bool]:
+        return {name: bool(on) for name, on in self._read("SELECT name, is_on FROM switches")}
+
+    def waiting_results(self) -> List[StoredResult]:
+        return [StoredResult(*row) for row in self._read("SELECT id, name, code, words FROM passive ORDER BY id")]
+
+    def requests(self) -> Dict[str, str]:
+        return dict(self._read("SELECT number, answer FROM requests ORDER BY id"))
+
+    def remarks(self) -> List[Remark]:
+        return read_remarks(self._read(REMARKS))
+
+    def outbox(self) -> List[Tuple[int, str, Optional[int]]]:
+        """The documents that the command for changes hasn't taken, the oldest first, with their moments."""
+        return self._read("SELECT id, document, moment FROM outbox ORDER BY id")
 
     def setting(self, name: str) -> Optional[str]:
         found = self._read("SELECT value FROM settings WHERE name = ?", name)
         return str(found[0][0]) if found else None
 
+    def waiting_changes(self) -> Tuple[int, Optional[int]]:
+        """The number of documents that the command for changes hasn't taken, and the moment of the first."""
+        ((count, first),) = self._read("SELECT count(*), min(moment) FROM outbox")
+        return count, first
+
     def changes_after(self, number: int) -> Set[int]:
         return {each for (each,) in self._read("SELECT id FROM changes WHERE id > ?", number)}
+
+    def figures(self) -> Dict[str, float]:
+        return {name: float(value) for name, value in self._read("SELECT name, value FROM figures")}
+
+    def standings(self) -> List[StoredStanding]:
+        return [StoredStanding(*cells) for cells in self._read(f"SELECT {', '.join(StoredStanding._fields)} FROM standings")]
 
     def open_spool(self) -> None:
         """Calls stay from now on until their results are in the spool of performance data."""
@@ -191,15 +199,16 @@ class Store:
         last_call = self.last_call
         self.file.test()
         try:
-            with raising(NotStored, self.path, sqlite3.Error):
-                self._database.execute("BEGIN IMMEDIATE")
-                for write in writes:
-                    write(self)
-                self._database.execute("COMMIT")
-        except BaseException:
+            self._database.execute("BEGIN IMMEDIATE")
+            for write in writes:
+                write(self)
+            self._database.execute("COMMIT")
+        except BaseException as error:
             self.last_call = last_call
             with contextlib.suppress(sqlite3.Error):  # there may be no transaction any more
                 self._database.execute("ROLLBACK")
+            if isinstance(error, sqlite3.Error):
+                raise NotStored(f"{self.path}: {error}") from None
             raise
         finally:
             self.file.note_state()
@@ -213,6 +222,13 @@ class Store:
             self._told_size = 2 * size
         elif size <= LARGEST_LOG:
             self._told_size = LARGEST_LOG
+
+    def row_number(self, name: str) -> int:
+        """The number of an object's row in the table of standings, which stays the same."""
+        if name not in self._row_numbers:
+            self._last_row += 1
+            self._row_numbers[name] = self._last_row
+        return self._row_numbers[name]
 
     def insert_all(self, table: str, rows: Sequence[Tuple[int, Sequence[Cell]]]) -> None:
         """Writes rows with their checksums. What is true or false is a number, as the database gives it back."""
@@ -263,31 +279,8 @@ def drop_changes_before(time: float) -> Write:
 
 
 def store_standings(standings: Sequence[StoredStanding]) -> Write:
-    return lambda store: store.insert_all("standings", [(store.row_numbers[it.name], it) for it in standings])
+    return lambda store: store.insert_all("standings", [(store.row_number(it.name), it) for it in standings])
 
 
 def store_figures(values: Mapping[str, float]) -> Write:
     return all_of(*(insert("figures", None, name, float(value)) for name, value in values.items()))
-
-
-def drop_calls(last: int) -> Write:
-    """Drops the calls up to a number, which are part of saved states. Those whose results aren't in the spool yet stay, up to a limit."""
-    def write(store: Store) -> None:
-        until = last if store.spooled is None else max(min(last, store.spooled), last - MOST_UNSPOOLED)
-        all_of(*(delete(table, "id <= ?", until) for table in ("calls", "aside")))(store)
-
-    return write
-
-
-def begin_generations(generations: Iterable[Generation]) -> Write:
-    """The schedulers of a site, which begin from their saved states: earlier generations and calls aren't needed any more."""
-    writes = [delete(table, "TRUE") for table in ("generations", "mirrors")]
-    for each in generations:
-        writes += [drop_calls(each.last_call), insert("generations", None, *each[:-1])]
-        writes += [insert("mirrors", None, each.part, json.dumps(sorted(each.mirrors), ensure_ascii=False))] if each.mirrors else []
-    return all_of(*writes)
-
-
-def save_generation(generation: Generation, oldest: int) -> Write:
-    """A part's scheduler with its saved state. Calls up to the oldest number are part of the saved states of all parts, and are dropped."""
-    return all_of(delete("generations", "part = ?", generation.part), insert("generations", None, *generation[:-1]), drop_calls(oldest))
