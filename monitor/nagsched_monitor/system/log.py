@@ -74,12 +74,10 @@ class RepeatedLines:
         self._causes: Dict[str, Tuple[float, int]] = {}
 
     def add(self, name: str, cause: str) -> None:
-        if cause in self._causes:
-            since, count = self._causes[cause]
-            self._causes[cause] = since, count + 1
-        else:
+        if cause not in self._causes:
             self._log(f"{name}: {cause}")
-            self._causes[cause] = self._clock(), 0
+        since, count = self._causes.get(cause, (self._clock(), -1))
+        self._causes[cause] = since, count + 1
 
     def flush(self) -> None:
         now = self._clock()
