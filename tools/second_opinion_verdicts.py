@@ -11,7 +11,7 @@ import from_nagios
 import model
 import rows
 from nagsched_monitor.faults import ConversationEnded
-from nagsched_monitor.model.protocol import Report, Reschedule, Standing as Verdict, Take, call_line, read_answer
+from nagsched_monitor.model.protocol import Report, Reschedule, Standing as Verdict, Take, call_line, read_standing
 from nagsched_monitor.scheduler.schedulers import Conversation
 
 FULL = 21  # results that fill a history for flapping
@@ -29,10 +29,10 @@ class Program(Conversation):
         """The program's verdict on a result."""
         self.runs += 1
         calls = [call_line(Reschedule(name, 0, True)), call_line(Take(begun * 1000)), call_line(Report(name, self.runs, code))]
-        answer = read_answer(self.ask_lines(calls)[-1], calls[-1])
-        if not isinstance(answer, Verdict):
+        answer = self.ask_lines(calls)[-1]
+        if not answer.startswith("standing "):
             raise ConversationEnded(f"nagsched gives no verdict on {name}, but answers {answer}")
-        return answer
+        return read_standing(answer.partition(" ")[2])
 
 
 @dataclasses.dataclass

@@ -10,7 +10,7 @@ from nagsched_monitor.inputs import client, control
 
 from nagsched_monitor.core.requests import Request
 from nagsched_monitor.faults import MonitorFault
-from nagsched_monitor.system.poller import READ_BYTES, FilePoller, keep_trying
+from nagsched_monitor.system.poller import FilePoller, keep_trying
 
 from .simulated import SiteTest
 from .waiting import becomes_true
@@ -160,7 +160,7 @@ class Socket(SiteTest):
         made = self.serving()
         there = self.asking()
         there.settimeout(30)
-        sending = threading.Thread(target=lambda: there.sendall(b"x" * (control.LONGEST_LINE + READ_BYTES)), daemon=True)
+        sending = threading.Thread(target=lambda: there.sendall(b"x" * (control.LONGEST_LINE + control.READ_BYTES)), daemon=True)
         sending.start()
         self.await_clients(made, 1)
         self.await_clients(made, 0)

@@ -1,6 +1,5 @@
 """The database: changed rows are found, and a failed write changes nothing."""
 import contextlib
-import gc
 import os
 import sqlite3
 from typing import List
@@ -243,7 +242,6 @@ class Database(SiteTest):
         store.write(store_figures({"calls": 7.0}))
 
     def test_a_new_database_leaves_no_file_open(self) -> None:
-        gc.collect()  # the files of earlier tests
         store, count = self.filled(), len(os.listdir("/proc/self/fd"))
         store.renew()
         self.assertEqual(len(os.listdir("/proc/self/fd")), count)

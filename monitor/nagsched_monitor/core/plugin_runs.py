@@ -118,7 +118,7 @@ class PluginRuns:
         part, name = run.key
         obj = self._scheduling.states.objects[name]
         if isinstance(event, JobFinished):
-            code, words = verdict(event, obj.definition.host is None, self._scheduling.site.options.timeout_code)
+            code, words = verdict(event, obj.definition.is_host(), self._scheduling.site.options.timeout_code)
             return self._scheduling.mirrors.report_calls(part, Report(name, run.number, code), words, now)
         if self._is_delayed(event):
             again = min(LONGEST_RETRY, RETRY << min(self._delays[name], 16))
@@ -131,7 +131,7 @@ class PluginRuns:
     def _is_delayed(self, event: JobLost) -> bool:
         """Whether a lost check says nothing about its object, and is made again after a pause: a host is never DOWN because of its runners."""
         name = event.job.name
-        return event.is_local or self._losses[name] == MOST_LOST and self._scheduling.states.objects[name].definition.host is None
+        return event.is_local or self._losses[name] == MOST_LOST and self._scheduling.states.objects[name].definition.is_host()
 
     def _count_losses(self, event: Event) -> None:
         name = event.job.name

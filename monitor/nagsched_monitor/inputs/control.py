@@ -2,7 +2,6 @@
 
 No client holds up the monitor or another client. A limited number of its lines is passed on in one turn, and answers that it doesn't read wait, up to a
 limit."""
-import contextlib
 import json
 import pathlib
 import socket
@@ -13,10 +12,11 @@ from typing import Any, Callable, List, Mapping, Optional
 
 from ..core.requests import Request
 from ..faults import MonitorFault, raising
-from ..system.poller import READ_BYTES, FilePoller, write_ready
+from ..system.poller import FilePoller, write_ready
 from .client import NAME, short_path
 
 LONGEST_LINE = 262_144
+READ_BYTES = 65_536
 # Limits: a client's lines in one turn, the bytes of its unread answers, clients at once, and the seconds for which a client may be silent. While there are
 # too many clients, one that has been silent for a second makes room.
 LINES_IN_TURN = 64
@@ -62,22 +62,28 @@ class ControlSocket:
 
     def _accept(self) -> None:
         """Accepts all clients that wait, as long as there is room. The one that has been idle the longest makes room for another."""
-        with contextlib.suppress(OSError):  # none waits, or there is no room for another file: tried again if a client still waits
-            while len(self._clients) < MOST_CLIENTS or any(client.is_idle() for client in self._clients):
+        while True:
+            idle = [client for client in self._clients if client.is_idle()]
+            if len(self._clients) >= MOST_CLIENTS and not idle:
+                return
+            try:
                 connection, _ = self._socket.accept()
-                if len(self._clients) >= MOST_CLIENTS:
-                    self._drop_client(min(filter(Client.is_idle, self._clients), key=lambda client: client.last_line_at))
-                connection.setblocking(False)
-                client = Client(connection)
-                self._clients.append(client)
-                self._poller.watch(connection.fileno(), partial(self._read, client))
+            except OSError:
+                return  # none waits, or there is no room for another file: tried again if a client still waits
+            if len(self._clients) >= MOST_CLIENTS:
+                self._drop_client(min(idle, key=lambda client: client.last_line_at))
+            connection.setblocking(False)
+            client = Client(connection)
+            self._clients.append(client)
+            self._poller.watch(connection.fileno(), partial(self._read, client))
 
     def _read(self, client: Client) -> None:
         if b"\n" in client.unread:
             return  # earlier lines have their turn first
-        data = b""
-        with contextlib.suppress(ConnectionError):  # the client has gone
+        try:
             data = client.connection.recv(READ_BYTES)
+        except ConnectionError:
+            data = b""  # the client has gone
         client.last_line_at = time.monotonic()
         client.unread += data
         if not data:

@@ -9,16 +9,16 @@ import os
 import pathlib
 import re
 import time
-from typing import Any, Callable, Dict, Iterable, List, Mapping, Sequence, Tuple
+from typing import Any, Dict, Iterable, List, Mapping, Sequence, Tuple
 
 from ..faults import MonitorFault, RequestFault, raising, require
 from ..site.people_files import Groups
-from ..system.poller import READ_BYTES
 from .client import send_requests
 
 NAME = "nagios.cmd"
 MODE = 0o660
 LONGEST_LINE = 65_536
+READ_BYTES = 65_536
 AT_ONCE = 64  # requests that are made together
 SHOWN = 80  # the number of characters that are shown of a line that isn't a command
 
@@ -30,32 +30,35 @@ GroupsByName = Mapping[str, Groups]
 # The objects that commands are about, as their names say it: one object, or several.
 ONE = ("HOST", "SVC")
 SEVERAL = ("HOST_SVC", "HOSTGROUP_HOST", "HOSTGROUP_SVC", "SERVICEGROUP_HOST", "SERVICEGROUP_SVC")
-ALL = (*ONE, *SEVERAL)
 # The forms of commands: their objects, the members of their request that are always the same, and the words after the object. Each word is a member, as its
-# reader has it. A word with a question mark may be left out; the last one may have semicolons in it. The name of a check is in the plural for several objects.
+# reader has it. A word with a question mark may be left out; the last one may have semicolons in it.
 MUTE = {"do": "mute", "author": "nagios.cmd", "text": "notifications are disabled"}
 FORMS: Sequence[Tuple[str, Sequence[str], Request, str]] = (
-    ("SCHEDULE_{}_CHECK", (*ONE, SEVERAL[0]), {"do": "reschedule", "force": False}, "at"),
-    ("SCHEDULE_FORCED_{}_CHECK", (*ONE, SEVERAL[0]), {"do": "reschedule", "force": True}, "at"),
-    ("ENABLE_{}_CHECK", ALL, {"do": "enable"}, ""),
-    ("DISABLE_{}_CHECK", ALL, {"do": "disable"}, ""),
+    ("SCHEDULE_{}_CHECK", ONE, {"do": "reschedule", "force": False}, "at"),
+    ("SCHEDULE_FORCED_{}_CHECK", ONE, {"do": "reschedule", "force": True}, "at"),
+    ("SCHEDULE_{}_CHECKS", SEVERAL[:1], {"do": "reschedule", "force": False}, "at"),
+    ("SCHEDULE_FORCED_{}_CHECKS", SEVERAL[:1], {"do": "reschedule", "force": True}, "at"),
+    ("ENABLE_{}_CHECK", ONE, {"do": "enable"}, ""),
+    ("DISABLE_{}_CHECK", ONE, {"do": "disable"}, ""),
+    ("ENABLE_{}_CHECKS", SEVERAL, {"do": "enable"}, ""),
+    ("DISABLE_{}_CHECKS", SEVERAL, {"do": "disable"}, ""),
     ("PROCESS_{}_CHECK_RESULT", ("HOST", "SERVICE"), {"do": "result"}, "code output?"),
     ("ACKNOWLEDGE_{}_PROBLEM", ONE, {"do": "ack"}, "sticky notify persistent author text"),
     ("REMOVE_{}_ACKNOWLEDGEMENT", ONE, {"do": "remove", "kind": "acknowledgement"}, ""),
-    ("SCHEDULE_{}_DOWNTIME", ALL, {"do": "downtime"}, "from until fixed trigger duration author text"),
+    ("SCHEDULE_{}_DOWNTIME", (*ONE, *SEVERAL), {"do": "downtime"}, "from until fixed trigger duration author text"),
     ("DEL_{}_DOWNTIME", ONE, {"do": "remove", "kind": "downtime"}, "id"),
     ("DEL_DOWNTIME_BY_HOST_NAME{}", ("",), {"do": "remove", "kind": "downtime"}, "host service? from? text?"),
     ("DEL_DOWNTIME_BY_START_TIME_COMMENT{}", ("",), {"do": "remove", "kind": "downtime"}, "from? text?"),
     ("ADD_{}_COMMENT", ONE, {"do": "comment"}, "persistent author text"),
     ("DEL_{}_COMMENT", ONE, {"do": "remove", "kind": "comment"}, "id"),
     ("DEL_ALL_{}_COMMENTS", ONE, {"do": "remove", "kind": "comment"}, ""),
-    ("DISABLE_{}_NOTIFICATIONS", ALL, MUTE, ""),
-    ("ENABLE_{}_NOTIFICATIONS", ALL, {"do": "remove", "kind": "mute"}, ""),
+    ("DISABLE_{}_NOTIFICATIONS", (*ONE, *SEVERAL), MUTE, ""),
+    ("ENABLE_{}_NOTIFICATIONS", (*ONE, *SEVERAL), {"do": "remove", "kind": "mute"}, ""),
     ("DISABLE_NOTIFICATIONS{}", ("",), {**MUTE, "name": ""}, ""),
     ("ENABLE_NOTIFICATIONS{}", ("",), {"do": "remove", "kind": "mute", "name": ""}, ""),
 )
-COMMANDS = {form.format(of) + "S" * (form.endswith("_CHECK") and of in SEVERAL): (of, request, words.split())
-            for form, kinds, request, words in FORMS for of in kinds}
+COMMANDS = {form.format(of): (of, request, words.split()) for form, kinds, request, words in FORMS for of in kinds}
+NUMBERS = ("at", "code", "sticky", "notify", "persistent", "from", "until", "fixed", "trigger", "duration", "id")
 
 
 class Pipe:
@@ -112,7 +115,7 @@ def requests_of(line: bytes, services: Services, groups: GroupsByName = {}) -> T
         is_complete = len(given) >= total - sum(word.endswith("?") for word in words)
         require(is_complete, f"it needs {total} arguments, and has {len(given)}", ValueError)
         read = {word.rstrip("?"): text for word, text in zip(words, given[count:]) if text or not word.endswith("?")}
-        members = {**request, **adjusted(request["do"], of, {word: READERS.get(word, str)(text) for word, text in read.items()})}
+        members = {**request, **adjusted(request["do"], of, {word: read_number(text) if word in NUMBERS else text for word, text in read.items()})}
         names = names_of(of, ";".join(rest.split(";")[:count]), services, groups) if count else []
         return command, [{**members, "name": name} for name in names] if count else [members]
 
@@ -135,15 +138,19 @@ def names_of(of: str, name: str, services: Services, groups: GroupsByName) -> Se
 def adjusted(do: str, of: str, members: Request) -> Request:
     """The members of a command as a request has them."""
     if do == "result":
-        # A host's code is a state here, which the scheduler turns into DOWN or UNREACHABLE.
+        # A host's code is a state here, which the scheduler turns into DOWN or UNREACHABLE. The pipe has two letters for each line feed of the output.
         code = members["code"]
         require(of != "HOST" or code <= 2, f"the code of a host has to be 0, 1 or 2, not {code}", ValueError)
-        return {"output": "", **members, "code": 2 if of == "HOST" and code else code}
-    members.pop("notify", None)
+        return {"code": 2 if of == "HOST" and code else code, "output": members.get("output", "").replace("\\n", "\n")}
+    if do == "ack":
+        members["sticky"] = members["sticky"] == 2
+        del members["notify"]
     if do == "downtime":
         require(members.pop("trigger") == 0, "a downtime that begins with another one can't be made here", ValueError)
         if members.pop("fixed"):
             del members["duration"]
+    if "persistent" in members:
+        members["persistent"] = members["persistent"] > 0
     if "service" in members:
         members["name"] = f"{members.pop('host')};{members.pop('service')}"
     return members
@@ -152,13 +159,6 @@ def adjusted(do: str, of: str, members: Request) -> Request:
 def read_number(word: str) -> int:
     require(re.fullmatch("[0-9]{1,15}", word.strip()), f"it needs a number, not {word[:SHOWN]!r}", ValueError)
     return int(word)
-
-
-# The readers of words that aren't texts. The pipe has two letters for each line feed of an output.
-READERS: Mapping[str, Callable[[str], Any]] = {
-    **dict.fromkeys(("at", "code", "notify", "from", "until", "fixed", "trigger", "duration", "id"), read_number),
-    "sticky": lambda word: read_number(word) == 2, "persistent": lambda word: read_number(word) > 0, "output": lambda word: word.replace("\\n", "\n"),
-}
 
 
 class CommandQueue:
@@ -190,13 +190,15 @@ class CommandQueue:
                 answers = send_requests(self._site, [json.dumps(request, ensure_ascii=False).encode(errors="replace") for _, request in some])
             except MonitorFault:
                 return  # it begins, ends or reads its site
-            again = []
+            again, refused = [], []
             for (name, request), answer in zip(some, map(json.loads, answers)):
                 if answer.get("again", False):
                     again.append((name, request))
                 elif "error" in answer:
-                    self._refuse(f"{name}: {request.get('name', '')}: {answer['error']}")
+                    refused.append(f"{name}: {request.get('name', '')}: {answer['error']}")
             self.waiting[: len(answers)] = again
+            for why in refused:
+                self._refuse(why)
             if again or len(answers) < len(some):
                 return
 

@@ -61,16 +61,20 @@ def event_members(event: Union[JobFinished, JobLost]) -> Dict[str, Any]:
 
 def read_event(job: Job, members: Dict[str, Any]) -> Union[JobFinished, JobLost]:
     """The event in a runner's line. `ValueError` says why it isn't one."""
-    texts = {name: members.get(name, "") for name in ("lost", "output", "stderr")}
-    for name, text in texts.items():
-        require(isinstance(text, str), f"{name} has to be a text", ValueError)
-        texts[name] = text.encode(errors="replace").decode()  # half a character, which a worker may have sent, can't be stored
     if "lost" in members:
-        return JobLost(job, plain_text(texts["lost"]), job.runner is None)
-    end, code, is_stuck = members.get("end", ""), members.get("code", -1), members.get("stuck", False)
+        return JobLost(job, plain_text(read_text(members, "lost")), job.runner is None)
+    end, code, is_stuck = members.get("end"), members.get("code"), members.get("stuck", False)
     require(end in ENDS, f"end has to be one of {', '.join(ENDS)}", ValueError)
-    require(type(code) is int and 0 <= code <= 255, "code has to be a number from 0 to 255", ValueError)
-    return JobFinished(job, end, code, texts["output"], texts["stderr"], is_stuck is True)
+    if isinstance(code, bool) or not isinstance(code, int) or not 0 <= code <= 255:
+        raise ValueError("code has to be a number from 0 to 255")
+    return JobFinished(job, str(end), code, read_text(members, "output"), read_text(members, "stderr"), is_stuck is True)
+
+
+def read_text(members: Dict[str, Any], name: str) -> str:
+    value = members.get(name, "")
+    if not isinstance(value, str):
+        raise ValueError(f"{name} has to be a text")
+    return value.encode(errors="replace").decode()  # half a character, which a worker may have sent, can't be stored
 
 
 def read_line(line: bytes) -> Tuple[int, Dict[str, Any]]:

@@ -40,6 +40,9 @@ class ObjectDefinition:
     freshness: Optional[int] = None  # milliseconds within which a result has to come; None without a limit
     runner: Optional[str] = None  # the runner elsewhere that makes its checks; None if they are made here
 
+    def is_host(self) -> bool:
+        return self.host is None
+
 
 class Owner(enum.Enum):
     """The component that will end a run."""
@@ -159,7 +162,8 @@ class DueQueue:
     def set_time(self, key: ObjectKey, time: Optional[int]) -> None:
         if time is not None and time == self._times.get(key):
             return
-        self._due[key[0]].discard(key[1])
+        part, name = key
+        self._due[part].discard(name)
         self._times.pop(key, None)
         if time is not None:
             self._times[key] = time

@@ -1,6 +1,6 @@
 """The calls to the scheduler, each a line of JSON, and its answers, each a line of words."""
 import json
-from typing import Callable, Dict, NamedTuple, Optional, Tuple, Union
+from typing import Callable, Dict, NamedTuple, Optional, Union
 
 from ..faults import ConversationEnded
 
@@ -77,10 +77,21 @@ def read_time(word: str) -> Optional[int]:
     return None if word == "none" else int(word)
 
 
-# An answer by its first word, and how each word after it is read. The last one goes on to the end of the line.
-READERS: Dict[str, Tuple[Callable[..., Answer], Tuple[Callable[[str], object], ...]]] = {
-    "taken": (Taken, (int, str)), "putoff": (PutOff, (read_time, str)), "idle": (Idle, ()), "atlimit": (Idle, ()), "freed": (Freed, (int, str)),
-    "standing": (Standing, (str, str, int, "yes".__eq__, "FLAPPING".__eq__, read_time, str)), "done": (Done, (str,)), "refused": (Refused, (str,)),
+def read_standing(rest: str) -> Standing:
+    state, kind, attempt, changed, flapping, time, name = rest.split(" ", 6)
+    return Standing(state, kind, int(attempt), changed == "yes", flapping == "FLAPPING", read_time(time), name)
+
+
+# An answer by its first word, from the rest of its line, the first word of this rest, and the name after that.
+READERS: Dict[str, Callable[[str, str, str], Answer]] = {
+    "taken": lambda rest, first, name: Taken(int(first), name),
+    "putoff": lambda rest, first, name: PutOff(read_time(first), name),
+    "idle": lambda rest, first, name: Idle(),
+    "atlimit": lambda rest, first, name: Idle(),
+    "standing": lambda rest, first, name: read_standing(rest),
+    "freed": lambda rest, first, name: Freed(int(first), name),
+    "done": lambda rest, first, name: Done(rest),
+    "refused": lambda rest, first, name: Refused(rest),
 }
 
 
@@ -89,8 +100,8 @@ def read_answer(reply: str, line: str) -> Answer:
     word, _, rest = reply.partition(" ")
     if word not in READERS:
         raise ConversationEnded(f"the scheduler answered {reply!r} to {line}")
-    kind, readers = READERS[word]
-    return kind(*(read(each) for read, each in zip(readers, rest.split(" ", len(readers) - 1))))
+    first, _, name = rest.partition(" ")
+    return READERS[word](rest, first, name)
 
 
 def object_name(call: Call, answer: Answer) -> str:

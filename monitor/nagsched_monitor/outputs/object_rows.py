@@ -10,7 +10,7 @@ from typing import Any, Callable, Dict, FrozenSet, List, Mapping, Optional, Sequ
 
 from ..model.remarks import Remark
 from ..model.text import printable_text
-from ..site.json_files import members_by_name, read_object
+from ..site.json_files import members_by_name, read_by_name
 from ..site.people_files import DIRECTORY, GROUPS, INVENTORY, NO_GROUPS, Directory, Facts, Groups, WatchedFile, read_directory, read_groups, read_inventory
 from ..site.periods import Periods
 from ..site.site import PERIODS, read_options, read_period_file
@@ -63,7 +63,7 @@ class ObjectRows:
         self._path, self._has_notifications = folder / "monitor.db", has_notifications
         self.process, self.started_at = os.getppid(), int(time.time())
         readers: Mapping[str, Callable[[pathlib.Path], Dict[str, Any]]] = {
-            COMMANDS: partial(read_object, file=COMMANDS), PASSIVE: partial(read_object, file=PASSIVE), GROUPS: read_groups,
+            COMMANDS: partial(read_plain, COMMANDS), PASSIVE: partial(read_plain, PASSIVE), GROUPS: read_groups,
             INVENTORY: read_inventory, DIRECTORY: read_directory, OPTIONS: lambda its: {"zone": read_options(its).zone},
             PERIODS: lambda its: dict(zip(("periods", "objects"), read_period_file(its))),
         }
@@ -183,3 +183,7 @@ class ObjectRows:
                 if parent in self.objects:
                     self.objects[parent].children.append(it.name)
         self.services = {name: [each.description for each in it.services] for name, it in self.objects.items() if not it.description}
+
+
+def read_plain(file: str, folder: pathlib.Path) -> Dict[str, Any]:
+    return {name: members for name, _, members in read_by_name(folder, file, None, None)}

@@ -15,7 +15,7 @@ import time
 from functools import partial
 from typing import Any, Callable, Deque, Dict, Tuple
 
-from ..faults import MonitorFault, raising, require
+from ..faults import MonitorFault, raising
 from ..model.jobs import Job, event_members, read_event
 from ..system.addresses import parse_address
 from ..system.log import Log
@@ -103,12 +103,14 @@ class Queue:
 
 def read_result(signer: Signer, mark: str, data: bytes) -> Dict[str, Any]:
     """A worker's answer to the job of this mark. The job is lost if it is no result of that job."""
+    why = "it is of another job"
     try:
         document = signer.verified_document(RESULT, data)
-        require(document["job"] == mark, "it is of another job", ValueError)
-        return event_members(read_event(Job(mark, 0, (), 0.0), document))
+        if document["job"] == mark:
+            return event_members(read_event(Job(mark, 0, (), 0.0), document))
     except ValueError as error:
-        return {"lost": f"its worker's answer was no result: {error}"}
+        why = str(error)
+    return {"lost": f"its worker's answer was no result: {why}"}
 
 
 def run(arguments: argparse.Namespace, log: Log) -> None:

@@ -1,7 +1,6 @@
 """Signed messages between the monitor and its workers, and which jobs a worker accepts.
 
-A message is a document, preceded by its HMAC-SHA256 with a key from a file that both have, and a space."""
-import contextlib
+A message is a document, preceded by its HMAC-SHA256 with a key from a file that both have."""
 import hashlib
 import hmac
 import json
@@ -16,7 +15,7 @@ from ..model.jobs import Job
 # The purpose of a message: a result can't be used as a job.
 JOB, RESULT = b"nagsched job\0", b"nagsched result\0"
 LEAST_KEY, MOST_BYTES = 16, 1 << 20
-SIZE = hashlib.sha256().digest_size * 2 + 1  # of a signature, and the space after it
+SIZE = hashlib.sha256().digest_size * 2
 # In seconds: the longest limit of a job, and the largest difference between the clocks of the two machines.
 LONGEST, SKEW = 86_400.0, 60.0
 
@@ -33,21 +32,24 @@ class Signer:
 
     def sign(self, purpose: bytes, document: Dict[str, Any]) -> bytes:
         body = json.dumps(document).encode()
-        return self._signature(purpose, body) + body
+        return body if self._key is None else self._signature(self._key, purpose, body) + b" " + body
 
     def verified_document(self, purpose: bytes, data: bytes) -> Dict[str, Any]:
         """The document of a message, which names a job. Raises `Refusal` if it isn't signed for this purpose. Nothing in it is used before that."""
-        signature, body = (data[:SIZE], data[SIZE:]) if self.is_signing else (b"", data)
-        is_signed = len(data) <= MOST_BYTES and hmac.compare_digest(signature, self._signature(purpose, body))
-        require(is_signed, "it is too long, or isn't signed with this site's key", Refusal)
-        with contextlib.suppress(ValueError, TypeError, KeyError, RecursionError):
+        body = data if self._key is None else data[SIZE + 1 :]
+        if len(data) > MOST_BYTES or self._key is not None and not hmac.compare_digest(data[:SIZE], self._signature(self._key, purpose, body)):
+            raise Refusal("it is too long, or isn't signed with this site's key")
+        try:
             document: Dict[str, Any] = json.loads(body)
             if isinstance(document["job"], str):
                 return document
+        except (ValueError, TypeError, KeyError, RecursionError):
+            pass
         raise Refusal("it names no job")
 
-    def _signature(self, purpose: bytes, body: bytes) -> bytes:
-        return b"" if self._key is None else hmac.new(self._key, purpose + body, hashlib.sha256).hexdigest().encode() + b" "
+    @staticmethod
+    def _signature(key: bytes, purpose: bytes, body: bytes) -> bytes:
+        return hmac.new(key, purpose + body, hashlib.sha256).hexdigest().encode()
 
 
 def read_signer(path: Optional[pathlib.Path], unsigned: bool) -> Signer:
@@ -87,7 +89,8 @@ class JobPolicy:
         number, begin, end, now = document["job"], number_in(document, "time"), number_in(document, "until"), self._clock()
         require(begin <= end <= begin + LONGEST, "it has no time", Refusal)
         require(document.get("queue") in self._queues, "it is of another queue", Refusal)
-        require(begin - SKEW <= now <= end + SKEW, f"its time is {now - begin:.0f} seconds from this machine's", Refusal)
+        if not begin - SKEW <= now <= end + SKEW:
+            raise Refusal(f"its time is {now - begin:.0f} seconds from this machine's")
         if now - self._last_sweep >= SKEW:
             self._accepted = {each: until for each, until in self._accepted.items() if until >= now}
             self._last_sweep = now
@@ -97,6 +100,7 @@ class JobPolicy:
 
 def number_in(document: Dict[str, Any], member: str) -> float:
     """A number in a document. Raises `Refusal` if it isn't a number of reasonable size."""
-    value: Any = document.get(member)
-    require(type(value) in (int, float) and abs(value) < 1e12, f"its {member} is no number", Refusal)
+    value = document.get(member)
+    if isinstance(value, bool) or not isinstance(value, (int, float)) or not abs(value) < 1e12:
+        raise Refusal(f"its {member} is no number")
     return float(value)

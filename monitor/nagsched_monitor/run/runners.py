@@ -15,9 +15,10 @@ from ..model.jobs import Event, Job, JobFinished, JobLost, StuckJobEnded, job_me
 from ..model.text import plain_text
 from ..site.runner_file import LOCAL, Remote
 from ..system.log import RepeatedLines
-from ..system.poller import READ_BYTES, FilePoller, write_ready
+from ..system.poller import FilePoller, write_ready
 from ..system.processes import count_left, end_process, end_session, runner_command
 
+READ_BYTES = 65_536
 # The longest line of a runner, in bytes. A longer line ends its runner.
 LONGEST_LINE = 1_048_576
 # The least time from one start of a runner to the next, in seconds. It doubles up to the longest. After a runner that ran that long, it is the first again.
@@ -52,13 +53,13 @@ class RunnerPool:
     """Processes of one command, which inherit some files. Without `slots` they have any number of jobs at once, and a job waits for them without a limit."""
 
     def __init__(self, name: str, arguments: Sequence[str], count: int, slots: Optional[int], wait: float, log: Callable[[str], None],
-                 poller: FilePoller, clock: Callable[[], float], files: Callable[[], Sequence[int]] = tuple, events: Optional[List[Event]] = None) -> None:
+                 poller: FilePoller, clock: Callable[[], float], files: Callable[[], Sequence[int]] = tuple) -> None:
         self._files = files
         self._name, self._arguments, self._count, self._slots, self._wait = name, arguments, count, slots, wait
         self._log, self._poller, self._clock = log, poller, clock
         self._lost = RepeatedLines(log, clock)
         self._title = "a runner" if slots is None else f"the runner {name}"
-        self._events: List[Event] = [] if events is None else events
+        self._events: List[Event] = []
         self._number = 0
         self.processes: List[RunnerProcess] = []
         # The jobs that no process has got yet, each with the time at which it came.
@@ -187,8 +188,7 @@ class RunnerPool:
             self._events.append(JobLost(self._waiting.popleft()[0]))
 
     def events(self) -> List[Event]:
-        events = list(self._events)
-        self._events.clear()
+        events, self._events = self._events, []
         return events
 
     def jobs(self) -> List[Job]:
@@ -205,15 +205,17 @@ class RunnerPools:
     def __init__(self, count: int, log: Callable[[str], None], poller: FilePoller, clock: Callable[[], float] = time.monotonic,
                  files: Callable[[], Sequence[int]] = tuple) -> None:
         """`files` stay open until the plugins of this machine are gone, also if the monitor is killed."""
-        self._events: List[Event] = []  # of all pools
-        self._pool = partial(RunnerPool, log=log, poller=poller, clock=clock, events=self._events)
+        self._pool = partial(RunnerPool, log=log, poller=poller, clock=clock)
         self._pools: Dict[str, RunnerPool] = {LOCAL: self._pool(LOCAL, runner_command(), count, None, 0.0, files=files)}
         self._remotes: Dict[str, Remote] = {}
+        self._events: List[Event] = []  # the last events of pools that were removed
 
     def set_remotes(self, remotes: Mapping[str, Remote]) -> None:
         """Has these runners elsewhere from now on; jobs at others are lost."""
         for name in [name for name, remote in self._remotes.items() if remotes.get(name) != remote]:
-            self._pools.pop(name).close()
+            pool = self._pools.pop(name)
+            pool.close()
+            self._events += pool.events()
         self._remotes = dict(remotes)
         for name, remote in remotes.items():
             if name not in self._pools:
@@ -242,7 +244,8 @@ class RunnerPools:
 
     def events(self) -> List[Event]:
         """The events since the last call."""
-        return self._pools[LOCAL].events()
+        events, self._events = self._events, []
+        return events + [event for pool in self._pools.values() for event in pool.events()]
 
     def process_counts(self) -> Dict[str, Dict[str, int]]:
         return {name: pool.process_counts() for name, pool in self._pools.items()}

@@ -14,9 +14,8 @@ from typing import Container, Dict, List, Mapping, Set
 from ..faults import SiteFault, raising, require
 from ..model.objects import Command
 from ..system.poller import replace_file
-from .json_files import EACH, FLAG, TEXT, read_object, seconds
+from .json_files import FLAG, TEXT, read_by_name, seconds
 
-FILE = "commands.json"
 # A line without quotes, escapes and shell characters.
 PLAIN = re.compile(r"[\w ./:,=%@+!#*?$~^{}\[\]-]*", re.ASCII)
 HALF = re.compile("[\ud800-\udfff]")  # half of a character, which JSON allows: no program can get such an argument
@@ -31,8 +30,7 @@ def read_commands(folder: pathlib.Path, objects: Container[str], runner_of: Cont
     commands = {}
     places: Dict[str, str] = {}  # the place of each line that a shell runs; equal lines are tested once
     which = functools.lru_cache(maxsize=None)(shutil.which)  # many lines have the same program
-    for name, members in read_object(folder, FILE, {EACH: {"line": TEXT, "shell": FLAG, "limit": seconds()}}, objects, required=True).items():
-        place = f"{FILE}: {name}"
+    for name, place, members in read_by_name(folder, "commands.json", {"line": TEXT, "shell": FLAG, "limit": seconds()}, objects, required=True):
         require("line" in members, f"{place}: it has no line")
         line, shell = members["line"], members.get("shell", False)
         require("\0" not in line, f"{place}: its line has a zero byte")
@@ -47,16 +45,19 @@ def read_commands(folder: pathlib.Path, objects: Container[str], runner_of: Cont
 
 
 def plain_arguments(line: str, place: str) -> List[str]:
-    """The words of a line, in which no character outside of quotes is one that only a shell gives a meaning."""
-    is_plain, lexer = PLAIN.fullmatch(line), shlex.shlex(line, posix=True, punctuation_chars=True)
-    lexer.whitespace_split, lexer.commenters = True, ""
     with raising(SiteFault, f"{place}: its line can't be split into words", ValueError):
-        signs = [] if is_plain else [word for word in lexer if word and not word.strip(lexer.punctuation_chars)]
-        arguments = line.split() if is_plain else shlex.split(line)
+        arguments, signs = (line.split(), []) if PLAIN.fullmatch(line) else (shlex.split(line), shell_characters(line))
     require(arguments, f"{place}: its line is empty")
     if signs:
         raise SiteFault(f'{place}: only a shell gives {signs[0]} a meaning: add "shell": true, or put it in quotes')
     return arguments
+
+
+def shell_characters(line: str) -> List[str]:
+    """The characters in a line, outside of quotes, that only a shell gives a meaning."""
+    lexer = shlex.shlex(line, posix=True, punctuation_chars=True)
+    lexer.whitespace_split, lexer.commenters = True, ""
+    return [word for word in lexer if word and not word.strip(lexer.punctuation_chars)]
 
 
 def test_shell_lines(file: pathlib.Path, places: Mapping[str, str]) -> None:

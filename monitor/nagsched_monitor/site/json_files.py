@@ -1,12 +1,12 @@
 """Reading the JSON files of a site: an error in one is a `SiteFault` that names the place. nagsched-from-nagios replaces them together.
 
-The members that an object may have are given with the form of each, which are forms again if it is an object too."""
+The members that an object may have are given with the form of each."""
 import contextlib
 import fcntl
 import json
 import os
 import pathlib
-from typing import Any, Callable, Collection, Container, Dict, Iterator, Mapping, NamedTuple, Optional, Type, Union
+from typing import Any, Callable, Collection, Container, Dict, Iterator, Mapping, NamedTuple, Optional, Tuple, Type
 
 from ..faults import SiteFault, raising, require, trouble_text
 from ..system.poller import keep_trying
@@ -42,22 +42,15 @@ def one_of(words: Collection[str]) -> Form:
     return Form(f"one of {', '.join(words)}", lambda value: isinstance(value, str) and value in words)
 
 
-Forms = Mapping[str, Union[Form, "Forms"]]
-EACH = "*"  # stands for every name
-OBJECTS: Forms = {EACH: {EACH: ANY}}
+Forms = Mapping[str, Form]
 
 
-def test_members(value: Any, forms: Forms, before: str = "", fault: Type[Exception] = SiteFault) -> None:
-    """Raises a fault unless a value is an object, of which each member is one of these and has its form."""
-    require(isinstance(value, dict), f"{before}it has to be an object", fault)
-    for member, its in value.items():
-        form = forms.get(member, forms.get(EACH))
-        if form is None:
-            raise fault(f"{before}a member {member!r} isn't known here")
-        if not isinstance(form, Form):
-            test_members(its, form, f"{before}{member}: ", fault)
-        elif not form.fits(its):  # the text of a long value takes time
-            raise fault(f"{before}{member} has to be {form.words}, not {its!r}")
+def test_members(members: Mapping[str, Any], forms: Forms, before: str = "", fault: Type[Exception] = SiteFault) -> None:
+    """Raises a fault unless each member is one of these and has its form."""
+    for member, value in members.items():
+        require(member in forms, f"{before}a member {member!r} isn't known here", fault)
+        if not forms[member].fits(value):  # the text of a long value takes time
+            raise fault(f"{before}{member} has to be {forms[member].words}, not {value!r}")
 
 
 @contextlib.contextmanager
@@ -75,17 +68,31 @@ def lock_for_reading(folder: pathlib.Path) -> Iterator[None]:
         yield
 
 
-def read_object(folder: pathlib.Path, file: str, forms: Forms = OBJECTS, objects: Optional[Container[str]] = None,
-                required: bool = False) -> Dict[str, Any]:
-    """The members of a file that is a JSON object; none if an optional file doesn't exist. With `objects`, a name that isn't one of them is a fault."""
-    if not required and not (folder / file).exists():
+def read_object(folder: pathlib.Path, name: str, forms: Optional[Forms] = None, required: bool = False) -> Dict[str, Any]:
+    """The members of a file that is a JSON object. An optional file that doesn't exist has none."""
+    path = folder / name
+    if not required and not path.exists():
         return {}
-    with raising(SiteFault, file, ValueError, RecursionError):
-        members: Dict[str, Any] = json.loads((folder / file).read_bytes())
-    test_members(members, forms, f"{file}: ")
-    for name in members:
-        require(objects is None or name in objects, f"{file}: {name}: there is no such object")
-    return members
+    with raising(SiteFault, name, ValueError, RecursionError):
+        return members_of(json.loads(path.read_bytes()), name, forms)
+
+
+def members_of(value: object, place: str, forms: Optional[Forms] = None) -> Dict[str, Any]:
+    """The members of an object; without `forms` they can be any."""
+    if not isinstance(value, dict):
+        raise SiteFault(f"{place}: it has to be an object")
+    if forms is not None:
+        test_members(value, forms, f"{place}: ")
+    return value
+
+
+def read_by_name(folder: pathlib.Path, file: str, forms: Optional[Forms], objects: Optional[Container[str]],
+                 required: bool = False) -> Iterator[Tuple[str, str, Dict[str, Any]]]:
+    """Each name in a file, its place in messages, and its members. With `objects`, a name that isn't one of them is a fault."""
+    for name, members in read_object(folder, file, required=required).items():
+        place = f"{file}: {name}"
+        require(objects is None or name in objects, f"{place}: there is no such object")
+        yield name, place, members_of(members, place, forms)
 
 
 def members_by_name(setup: Mapping[str, Any]) -> Dict[str, Mapping[str, Any]]:

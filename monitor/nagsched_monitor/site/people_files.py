@@ -9,7 +9,7 @@ from ..model.clock import LAST_TIME
 from ..model.remarks import REMARK_KINDS, Remark
 from ..model.text import plain_text
 from ..system.log import Trouble
-from .json_files import EACH, FLAG, LIST, NAMES, TEXT, YEAR, Form, one_of, read_object, test_members, whole
+from .json_files import ANY, FLAG, LIST, NAMES, TEXT, YEAR, Form, members_of, one_of, read_by_name, read_object, whole
 
 GROUPS, INVENTORY, REMARKS, DIRECTORY = "groups.json", "inventory.json", "remarks.json", "directory.json"
 KINDS = ("host_groups", "service_groups", "contact_groups", "contacts")
@@ -46,15 +46,17 @@ NO_GROUPS = Groups()
 
 def read_groups(folder: pathlib.Path, objects: Optional[Container[str]] = None) -> Dict[str, Groups]:
     """The groups of each object that has some. With `objects`, a name that isn't one of them is a fault."""
+    groups: Dict[str, Groups] = {}
     names = Form("a list of names without commas", lambda value: NAMES.fits(value) and not any("," in each for each in value))
-    groups = {}
-    for name, its in read_object(folder, GROUPS, {EACH: {**dict.fromkeys(KINDS, names), "notifications": NOTIFICATIONS}}, objects).items():
-        groups[name] = Groups({kind: its[kind] for kind in its if kind in KINDS}, notification_labels(its.get("notifications", {})))
+    for name, place, members in read_by_name(folder, GROUPS, {**dict.fromkeys(KINDS, names), "notifications": ANY}, objects):
+        notifications = read_notifications(members.pop("notifications", {}), f"{place}: notifications")
+        groups[name] = Groups(members, notifications)
     return groups
 
 
-def notification_labels(members: Mapping[str, Any]) -> Dict[str, str]:
+def read_notifications(value: object, place: str) -> Dict[str, str]:
     """The labels for what differs from an object that is notified of everything, at any time and at once."""
+    members = members_of(value, place, NOTIFICATIONS)
     is_enabled, period = members.get("enabled", True), members.get("period", "")
     labels = {"notification_period": period} if period else {}
     if not is_enabled or "options" in members:
@@ -77,18 +79,20 @@ def labels_of(name: str, groups: Mapping[str, Groups]) -> Dict[str, str]:
 
 def read_inventory(folder: pathlib.Path, objects: Optional[Container[str]] = None) -> Dict[str, Facts]:
     """The facts of each object that has some. With `objects`, a name that isn't one of them is a fault."""
-    inventory = read_object(folder, INVENTORY, {EACH: {**dict.fromkeys(TEXTS, TEXT), "custom": {EACH: TEXT}}}, objects)
-    for members in inventory.values():
-        members.update({f"_{variable}": text for variable, text in members.pop("custom", {}).items()})
+    inventory: Dict[str, Facts] = {}
+    for name, place, members in read_by_name(folder, INVENTORY, {**dict.fromkeys(TEXTS, TEXT), "custom": ANY}, objects):
+        custom = members_of(members.pop("custom", {}), f"{place}: custom")
+        members_of(custom, f"{place}: custom", dict.fromkeys(custom, TEXT))
+        inventory[name] = {**members, **{f"_{variable}": text for variable, text in custom.items()}}
     return inventory
 
 
 def read_remarks(folder: pathlib.Path, objects: Container[str]) -> List[Remark]:
     """The remarks in the file of a site. Their numbers are their places in it."""
     found = []
-    for number, its in enumerate(read_object(folder, REMARKS, {"remarks": LIST}).get("remarks", []), 1):
+    for number, value in enumerate(read_object(folder, REMARKS, {"remarks": LIST}).get("remarks", []), 1):
         place = f"{REMARKS}: remark {number}"
-        test_members(its, REMARK, f"{place}: ")
+        its = members_of(value, place, REMARK)
         for member in (*list(REMARK)[:6], *(["ends_at"] if its.get("kind") == "downtime" else [])):
             require(member in its, f"{place}: it needs {member}")
         require(its["name"] in objects, f"{place}: there is no object {its['name']!r}")
@@ -99,7 +103,11 @@ def read_remarks(folder: pathlib.Path, objects: Container[str]) -> List[Remark]:
 
 def read_directory(folder: pathlib.Path) -> Dict[str, Mapping[str, Mapping[str, Any]]]:
     """The members of groups and contacts, by their kind and name."""
-    return read_object(folder, DIRECTORY, dict.fromkeys(KINDS, {EACH: {**dict.fromkeys(OF_A_NAME, TEXT), "members": NAMES}}))
+    directory = read_object(folder, DIRECTORY, dict.fromkeys(KINDS, ANY))
+    for kind, names in directory.items():
+        for name, members in members_of(names, f"{DIRECTORY}: {kind}").items():
+            members_of(members, f"{DIRECTORY}: {kind}: {name}", {**dict.fromkeys(OF_A_NAME, TEXT), "members": NAMES})
+    return directory
 
 
 def facts_of(name: str, inventory: Mapping[str, Facts]) -> Dict[str, str]:

@@ -5,16 +5,15 @@ Nagios. The order is: dates with a year, of a month, of a day of any month, of a
 """
 import calendar
 import datetime
-import functools
 import graphlib
 import re
-from typing import Any, Dict, List, Mapping, NamedTuple, Optional, Sequence, Tuple
+from typing import Any, Dict, List, Mapping, NamedTuple, Optional, Sequence, Tuple, Union
 
-from ..faults import SiteFault, raising, require
-from .json_files import ANY, EACH, LIST, NAMES, Form, one_of, test_members, whole
+from ..faults import SiteFault, require
+from .json_files import ANY, LIST, NAMES, Form, members_of, one_of, whole
 
 WEEKDAYS = ("monday", "tuesday", "wednesday", "thursday", "friday", "saturday", "sunday")
-CLOCK_TIMES = re.compile(r"(\d\d):([0-5]\d)-(\d\d):([0-5]\d)")
+CLOCK_TIMES = re.compile(r"(\d\d):(\d\d)-(\d\d):(\d\d)")
 DATE = re.compile(r"\d{4}-\d\d-\d\d")
 
 # The members of a day without a year, in the order in which dates count if several fit, and the limits of those that are numbers.
@@ -36,22 +35,28 @@ DAY = {"month": whole(1, 12), "day": counted(31), "nth": counted(5), "weekday": 
 Minutes = Tuple[int, int]  # from a minute of the day up to another, which is excluded
 
 
-class Day(NamedTuple):
-    """A day of one year or of each, of one month or of each: its number, or which of its weekdays it is. A negative number counts from the end."""
+class DayOfMonth(NamedTuple):
+    """A day of each month, or of one month of each year: its number, or which of its weekdays it is. A negative number counts from the end."""
 
-    year: Optional[int]
-    month: Optional[int]
-    weekday: Optional[int]
     number: int
+    weekday: Optional[int]
+    month: Optional[int]
 
 
-@functools.lru_cache(maxsize=10_000)
+Day = Union[datetime.date, DayOfMonth]
+
+
 def date_of(day: Day, months: int, is_last: bool = False) -> Optional[datetime.date]:
     """The date of a day in this month, which is counted from the year 0, or in its year. The last day of a range ends at the latest with its month."""
-    year, month = day.year or months // 12, day.month or months % 12 + 1
+    if isinstance(day, datetime.date):
+        return day
+    year, month = months // 12, day.month or months % 12 + 1
     weekday_of_first, length = calendar.monthrange(year, month)
-    first, days = (1, 1) if day.weekday is None else (1 + (day.weekday - weekday_of_first) % 7, 7)
-    count = (length - first) // days + 1
+    if day.weekday is None:
+        first, count, days = 1, length, 1
+    else:
+        first, days = 1 + (day.weekday - weekday_of_first) % 7, 7
+        count = (length - first) // 7 + 1
     number = first + days * (day.number - 1 if day.number > 0 else count + day.number)
     number = min(number, length) if is_last else number
     return datetime.date(year, month, number) if 1 <= number <= length else None
@@ -72,7 +77,7 @@ class Dates(NamedTuple):
         first, last = date_of(self.first, months), date_of(self.last, months, is_last=True)
         if first is None or last is None or (not first <= day <= last if first <= last else last < day < first):
             return False
-        if day < first:
+        if day < first and isinstance(self.first, DayOfMonth):
             first = date_of(self.first, months - (12 if self.first.month else 1))
         return self.step == 1 or first is not None and (day - first).days % self.step == 0
 
@@ -103,22 +108,24 @@ class Periods:
         return {name: self.includes(name, wall) for name in self._periods}
 
 
-def read_periods(document: Mapping[str, Any], file: str) -> Dict[str, Period]:
+def read_periods(document: Mapping[str, object], file: str) -> Dict[str, Period]:
     """The periods of a document, after a test: each excluded name exists, and no period excludes itself."""
-    test_members(document, {EACH: PERIOD}, f"{file}: period ")
-    periods = {}
-    for name, members in document.items():
-        place, excluded = f"{file}: period {name}", members.get("exclude", [])
-        for other in excluded:
-            require(other in document, f"{place}: there is no period {other}, which it excludes")
-        times_of = {WEEKDAYS.index(day): read_times(texts, f"{place}: {day}") for day, texts in members.get("weekdays", {}).items()}
-        dates = [read_dates(each, f"{place}: date {index}") for index, each in enumerate(members.get("dates", []))]
-        periods[name] = Period(times_of, sorted(dates, key=lambda each: each.rank), excluded)
+    periods = {name: read_period(members, f"{file}: period {name}") for name, members in document.items()}
+    for name, period in periods.items():
+        for other in period.excluded:
+            require(other in periods, f"{file}: period {name}: there is no period {other}, which it excludes")
     try:
         graphlib.TopologicalSorter({name: period.excluded for name, period in periods.items()}).prepare()
     except graphlib.CycleError as error:
         raise SiteFault(f"{file}: period {error.args[1][0]} excludes itself") from None
     return periods
+
+
+def read_period(members: object, place: str) -> Period:
+    document = members_of(members, place, PERIOD)
+    times_of = {WEEKDAYS.index(day): read_times(texts, f"{place}: {day}") for day, texts in document.get("weekdays", {}).items()}
+    read = [read_dates(each, f"{place}: date {index}") for index, each in enumerate(document.get("dates", []))]
+    return Period(times_of, sorted(read, key=lambda dates: dates.rank), document.get("exclude", []))
 
 
 def read_times(texts: Any, place: str) -> List[Minutes]:
@@ -129,35 +136,39 @@ def read_times(texts: Any, place: str) -> List[Minutes]:
         match = CLOCK_TIMES.fullmatch(str(text))
         hour, minute, last_hour, last_minute = map(int, match.groups()) if match else (0, 0, 0, 0)
         first, last = hour * 60 + minute, last_hour * 60 + last_minute
-        require(first < last <= 24 * 60, f"{place}: times have to be like 09:00-17:00 and end on the same day, not {text!r}")
+        is_good = minute <= 59 and last_minute <= 59 and first < last <= 24 * 60
+        require(is_good, f"{place}: times have to be like 09:00-17:00 and end on the same day, not {text!r}")
         times.append((first, last))
     return times
 
 
-def read_dates(members: Any, place: str) -> Dates:
+def read_dates(members: object, place: str) -> Dates:
     """Days with their times: one day, or those from a first to a last one. A range of dates with a step may have no end."""
-    require(isinstance(members, dict) and "times" in members, f"{place}: a date is an object with times")
+    if not isinstance(members, dict) or "times" not in members:
+        raise SiteFault(f"{place}: a date is an object with times")
     times, days = read_times(members["times"], place), {member: value for member, value in members.items() if member != "times"}
     if "first" not in days:
         rank, day = read_day(days, place)
         return Dates(rank, day, day, 1, times)
-    test_members(days, RANGE, f"{place}: ")
+    members_of(days, place, RANGE)
     rank, first = read_day(days["first"], f"{place}: first")
     has_end = "last" in days or rank > 0 or "step" not in days
-    last_rank, last = read_day(days.get("last"), f"{place}: last") if has_end else (0, Day(datetime.MAXYEAR, 12, None, 31))
+    last_rank, last = read_day(days.get("last"), f"{place}: last") if has_end else (0, datetime.date.max)
     require(rank == last_rank, f"{place}: first and last have to be days of the same form")
-    require(rank > 0 or first <= last, f"{place}: its last day comes before its first")
+    is_in_order = not isinstance(first, datetime.date) or not isinstance(last, datetime.date) or first <= last
+    require(is_in_order, f"{place}: its last day comes before its first")
     return Dates(rank, first, last, days.get("step", 1), times)
 
 
-def read_day(value: Any, place: str) -> Tuple[int, Day]:
+def read_day(value: object, place: str) -> Tuple[int, Day]:
     """A date, or a day of a month, and its rank."""
     if isinstance(value, str) and DATE.fullmatch(value):
-        with raising(SiteFault, f"{place}: there is no day {value}", ValueError):
-            date = datetime.date.fromisoformat(value)
-        return 0, Day(date.year, date.month, None, date.day)
-    is_day = isinstance(value, dict) and set(value) in KINDS
-    require(is_day, f"{place}: a day is a date such as 2026-12-24, or has day and perhaps month, or weekday, nth and perhaps month")
-    test_members(value, DAY, f"{place}: ")
+        try:
+            return 0, datetime.date.fromisoformat(value)
+        except ValueError:
+            raise SiteFault(f"{place}: there is no day {value}") from None
+    if not isinstance(value, dict) or set(value) not in KINDS:
+        raise SiteFault(f"{place}: a day is a date such as 2026-12-24, or has day and perhaps month, or weekday, nth and perhaps month")
+    members_of(value, place, DAY)
     weekday = WEEKDAYS.index(value["weekday"]) if "weekday" in value else None
-    return KINDS.index(set(value)) + 1, Day(None, value.get("month"), weekday, value["nth"] if "nth" in value else value["day"])
+    return KINDS.index(set(value)) + 1, DayOfMonth(value["nth"] if "nth" in value else value["day"], weekday, value.get("month"))

@@ -3,17 +3,18 @@
 `docs/monitor.md` has its files, and the members of each."""
 import json
 import pathlib
-import shutil
 import subprocess
 import zoneinfo
 from dataclasses import dataclass, replace
 from typing import AbstractSet, Any, Container, Dict, List, Mapping, Optional, Sequence, Tuple
 
-from ..faults import SiteFault, raising, require
+from ..faults import SiteFault, raising, require, trouble_text
 from ..model.objects import ObjectDefinition
 from ..model.remarks import Remark
 from .command_lines import read_commands
-from .json_files import ANY, EACH, FLAG, MOST_SECONDS, NAMES, TEXT, YEAR, lock_for_reading, members_by_name, one_of, read_object, seconds, whole
+from .json_files import (
+    ANY, FLAG, MOST_SECONDS, NAMES, TEXT, YEAR, lock_for_reading, members_by_name, members_of, one_of, read_by_name, read_object, seconds, whole,
+)
 from .mirror_file import read_mirrors
 from .people_files import read_directory, read_groups, read_inventory, read_remarks
 from .periods import Period, Periods, read_periods
@@ -79,7 +80,7 @@ def read_site(folder: pathlib.Path, program: str) -> Site:
         runners, runner_of = read_runners(folder, objects, read_groups(folder, objects))
         commands = read_commands(folder, objects, runner_of)
         periods, period_of = read_period_file(folder, objects)
-        passive = read_object(folder, "passive.json", {EACH: {"only": FLAG, "freshness": seconds(YEAR)}}, objects)
+        passive = read_passive(folder, objects)
         read_inventory(folder, objects)
         remarks = read_remarks(folder, objects)
         read_directory(folder)
@@ -87,9 +88,9 @@ def read_site(folder: pathlib.Path, program: str) -> Site:
     for name, definition in objects.items():
         for parent in definition.parents:
             children.setdefault(parent, []).append(name)
-        command, period, runner, its = commands.get(name), period_of.get(name), runner_of.get(name), passive.get(name, {})
-        freshness = round(its["freshness"] * 1000) if "freshness" in its else None
-        objects[name] = replace(definition, command=command, period=period, runner=runner, passive_only=its.get("only", False), freshness=freshness)
+        only, freshness = passive.get(name, (False, None))
+        command, period, runner = commands.get(name), period_of.get(name), runner_of.get(name)
+        objects[name] = replace(definition, command=command, period=period, runner=runner, passive_only=only, freshness=freshness)
         test_command(objects[name])
     with_freshness = [name for name, definition in objects.items() if definition.freshness is not None]
     return Site(setups, objects, Periods(periods, options.zone), options, children, with_freshness, mirrors, runners,
@@ -109,9 +110,14 @@ def setup_line(path: pathlib.Path, program: str) -> bytes:
     """A setup on one line, as the scheduler reads it. A setup that it refuses is a fault, in the scheduler's words."""
     with raising(SiteFault, path.name):
         setup = path.read_bytes()
-    require(shutil.which(program), f"there is no program {program}: put it on the path, or name it with --program")
-    with raising(SiteFault, f"{path.name}: {program} can't be run", subprocess.TimeoutExpired):
+    try:
         checked = subprocess.run([program, "check", "--line"], input=setup, stdout=subprocess.PIPE, check=False, timeout=LIMIT)
+    except (FileNotFoundError, PermissionError):
+        raise SiteFault(f"there is no program {program}: put it on the path, or name it with --program") from None
+    except OSError as error:
+        raise SiteFault(f"{program} can't be run: {trouble_text(error)}") from None
+    except subprocess.TimeoutExpired:
+        raise SiteFault(f"{path.name}: {program} gives no answer within {LIMIT:g} seconds") from None
     line = checked.stdout.rstrip(b"\n")
     if checked.returncode != 0:
         raise SiteFault(f"{path.name}: {'; '.join(line.decode(errors='replace').splitlines()) or 'the scheduler gives no answer'}")
@@ -152,12 +158,21 @@ def test_command(definition: ObjectDefinition) -> None:
 
 def read_period_file(folder: pathlib.Path, objects: Optional[Container[str]] = None) -> Tuple[Dict[str, Period], Dict[str, str]]:
     """The periods of a site, and the period of each object that has one. With `objects`, a name that isn't one of them is a fault."""
-    document = read_object(folder, PERIODS, {"periods": {EACH: ANY}, "objects": {EACH: ANY}})
-    periods, period_of = read_periods(document.get("periods", {}), PERIODS), document.get("objects", {})
+    document = read_object(folder, PERIODS, {"periods": ANY, "objects": ANY})
+    periods = read_periods(members_of(document.get("periods", {}), f"{PERIODS}: periods"), PERIODS)
+    period_of = members_of(document.get("objects", {}), f"{PERIODS}: objects")
     for name, period in period_of.items():
         require(objects is None or name in objects, f"{PERIODS}: {name}: there is no such object")
         require(isinstance(period, str) and period in periods, f"{PERIODS}: {name}: there is no period {period!r}")
     return periods, period_of
+
+
+def read_passive(folder: pathlib.Path, objects: Container[str]) -> Dict[str, Tuple[bool, Optional[int]]]:
+    """For each object in the file, whether it is passive only, and its freshness in milliseconds."""
+    passive = {}
+    for name, _, members in read_by_name(folder, "passive.json", {"only": FLAG, "freshness": seconds(YEAR)}, objects):
+        passive[name] = members.get("only", False), round(members["freshness"] * 1000) if "freshness" in members else None
+    return passive
 
 
 def read_options(folder: pathlib.Path) -> Options:

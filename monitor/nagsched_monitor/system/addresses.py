@@ -1,23 +1,24 @@
 """Addresses of servers."""
 import ipaddress
-import re
 import urllib.parse
 from typing import Tuple
 
-from ..faults import MonitorFault, raising
+from ..faults import MonitorFault
 
-ADDRESS = re.compile(r"(\[.*\]|[^:\[]*):([0-9]{1,5})")
 LAST_PORT = 65_535
 
 
 def parse_address(given: str, of: str = "--page") -> Tuple[str, int]:
     """Address and port of `ADDRESS:PORT`; an IPv6 address is in brackets. Raises `MonitorFault` if `given` isn't such an address."""
-    found = ADDRESS.fullmatch(given)
-    if found is None or int(found[2]) > LAST_PORT:
+    address, colon, port = given.rpartition(":")
+    is_bracketed = address.startswith("[") and address.endswith("]")
+    if not colon or not port.isascii() or not port.isdigit() or len(port) > 5 or int(port) > LAST_PORT or ":" in address and not is_bracketed:
         raise MonitorFault(f"{of} has to be ADDRESS:PORT, such as 127.0.0.1:8080 or [::1]:8080, not {given!r}")
-    address = found[1].strip("[]")
-    with raising(MonitorFault, f"{of} needs an IP address or localhost", ValueError):
-        return "127.0.0.1" if address == "localhost" else str(ipaddress.ip_address(address)), int(found[2])
+    bare = address[1:-1] if is_bracketed else address
+    try:
+        return "127.0.0.1" if bare == "localhost" else str(ipaddress.ip_address(bare)), int(port)
+    except ValueError:
+        raise MonitorFault(f"{of} needs an IP address or localhost, not {address!r}") from None
 
 
 def is_loopback(given: str) -> bool:

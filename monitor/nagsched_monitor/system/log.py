@@ -74,10 +74,12 @@ class RepeatedLines:
         self._causes: Dict[str, Tuple[float, int]] = {}
 
     def add(self, name: str, cause: str) -> None:
-        if cause not in self._causes:
+        if cause in self._causes:
+            since, count = self._causes[cause]
+            self._causes[cause] = since, count + 1
+        else:
             self._log(f"{name}: {cause}")
-        since, count = self._causes.get(cause, (self._clock(), -1))
-        self._causes[cause] = since, count + 1
+            self._causes[cause] = self._clock(), 0
 
     def flush(self) -> None:
         now = self._clock()

@@ -6,7 +6,6 @@ import selectors
 import time
 from typing import Callable
 
-READ_BYTES = 65_536  # how much is read at once
 RETRY = 0.02  # the pause before an action that would block is tried again, in seconds
 MODE = 0o644  # anybody may read a file that is written as a whole
 

@@ -12,7 +12,6 @@ import time
 from typing import Callable, Container, Iterator, List, Optional, Tuple
 
 from ..faults import MonitorFault, trouble_text
-from .poller import READ_BYTES
 
 # The folder of the package, and the folders of its programs: installed next to the package, or built in the tree.
 FOLDER = pathlib.Path(__file__).resolve().parent.parent.parent
@@ -21,7 +20,8 @@ GRACE = 5.0  # the limit for the end of a process, in seconds
 LOOK_AGAIN = 0.005  # the pause between two looks at killed processes, in seconds
 # The least time from one start of a helper to the next, in seconds. It doubles up to the longest. After a process that ran that long, it is the first again.
 PAUSE, LONGEST_PAUSE = 5.0, 60.0
-SILENCE = 120.0  # the time without a line after which a helper stands still, in seconds
+# The time without a line after which a helper stands still, in seconds, and the most bytes of its lines that are read at once.
+SILENCE, READ_BYTES = 120.0, 65_536
 ARGUMENTS = "NAGSCHED_HELPER"  # the variable with a helper's arguments
 
 
@@ -75,17 +75,21 @@ def count_left(sessions: Container[int]) -> int:
     return sum(group not in groups for group in groups.values())
 
 
+def kill_members(session: int) -> int:
+    """Kills the processes of a session, except another user's, and returns their number."""
+    count = 0
+    for process in [process for process, _, its in living_processes() if its == session]:
+        with contextlib.suppress(OSError):
+            os.kill(process, signal.SIGKILL)
+            count += 1
+    return count
+
+
 def end_session(session: int) -> None:
-    """Kills the processes of a session, except another user's, and waits until they are gone. Its number is no other's as long as its first process waits
-    for its parent."""
-    end, is_gone = time.monotonic() + GRACE, False
-    while not is_gone and time.monotonic() < end:
-        is_gone = True
-        for process in [process for process, _, its in living_processes() if its == session]:
-            with contextlib.suppress(OSError):
-                os.kill(process, signal.SIGKILL)
-                is_gone = False
-        time.sleep(0 if is_gone else LOOK_AGAIN)
+    """Kills the processes of a session, and waits until they are gone. Its number is no other's as long as its first process waits for its parent."""
+    end = time.monotonic() + GRACE
+    while kill_members(session) and time.monotonic() < end:
+        time.sleep(LOOK_AGAIN)
 
 
 class HelperProcess:
@@ -98,7 +102,9 @@ class HelperProcess:
         # Its arguments, which may have a password, aren't in its command line, which every user of the machine can read.
         self._environment = {**os.environ, ARGUMENTS: json.dumps(arguments)}
         self._process: Optional["subprocess.Popen[bytes]"] = None
-        self._not_before, self._pause = clock(), PAUSE
+        self._unread = b""
+        self._started_at = self._heard_at = self._not_before = clock()
+        self._pause = PAUSE
 
     def work(self) -> None:
         """Starts the process if it doesn't run, and logs its lines."""
@@ -107,8 +113,9 @@ class HelperProcess:
             self._log_lines(self._process)
             if status is None and self._clock() - self._heard_at < SILENCE:
                 return
-            pause = PAUSE if self._clock() - self._started_at >= LONGEST_PAUSE else self._pause
-            self._not_before, self._pause = self._started_at + pause, min(LONGEST_PAUSE, 2 * pause)
+            self._pause = PAUSE if self._clock() - self._started_at >= LONGEST_PAUSE else self._pause
+            self._not_before = self._started_at + self._pause
+            self._pause = min(LONGEST_PAUSE, 2 * self._pause)
             self._log(f"{self._name} {'stands still' if status is None else f'ended with status {status}'}; it is begun again")
             self._process.kill()
             self.close()
@@ -117,7 +124,6 @@ class HelperProcess:
 
     def _start(self) -> None:
         self._started_at = self._heard_at = self._clock()
-        self._unread = b""
         try:
             self._process = subprocess.Popen(self._command, stdin=subprocess.PIPE, stdout=subprocess.PIPE, stderr=subprocess.STDOUT, bufsize=0,
                                              env=self._environment)
@@ -141,6 +147,7 @@ class HelperProcess:
         if self._process is not None:
             end_process(self._process)
             self._process = None
+            self._unread = b""
 
 
 class ParentMonitor:

@@ -7,7 +7,6 @@ import time
 import traceback
 from typing import Any, Callable, Dict, Type
 
-from .log import RepeatedLines
 from .processes import ParentMonitor
 
 MOST_CLIENTS = 64
@@ -25,7 +24,7 @@ class ThreadServer(socketserver.ThreadingTCPServer):
     longest_request = LONGEST_REQUEST
 
     def __init__(self, place: Any, handler: Type[socketserver.BaseRequestHandler], name: str, log: Callable[[str], None] = print) -> None:
-        self._name, self.log, self._turned_away = name, log, RepeatedLines(log, time.monotonic)
+        self._name, self.log, self._full_until = name, log, 0.0
         # When each open connection is closed at the latest. Only the server's own thread adds some, and each thread changes and removes its own.
         self.ends_at: Dict[Any, float] = {}
         self.silent_since: Dict[Any, float] = {}  # the connections that wait for another request
@@ -44,7 +43,9 @@ class ThreadServer(socketserver.ThreadingTCPServer):
         if len(self.ends_at) >= MOST_CLIENTS and silent and now - silent[0][1] > SILENT:
             self._shut_down(silent[0][0])
         elif len(self.ends_at) >= MOST_CLIENTS:
-            self._turned_away.add(self._name, f"a client is turned away, since {MOST_CLIENTS} are connected")
+            if now >= self._full_until:
+                self.log(f"{self._name}: a client is turned away, since {MOST_CLIENTS} are connected")
+                self._full_until = now + 60
             return self.shutdown_request(request)
         self.ends_at[request] = now + self.longest_request
         super().process_request(request, client_address)
@@ -55,7 +56,6 @@ class ThreadServer(socketserver.ThreadingTCPServer):
         super().shutdown_request(request)
 
     def service_actions(self) -> None:
-        self._turned_away.flush()
         for request, end in list(self.ends_at.items()):
             if time.monotonic() > end:
                 self._shut_down(request)
