@@ -14,6 +14,8 @@ pub mod Scripted
 pub mod Agreement
 pub mod Start
 pub mod Text
+pub mod JsonText
+pub mod Forms
 pub mod LiveText
 pub mod Capacity
 pub mod Output

@@ -1,0 +1,10 @@
+use Rattle.std.proofs.Common.{◌≡◌, [], ◌++◌}
+use Rattle.std.specs.Prelude.{flat_map}
+use Rattle.std.specs.List.{range_with_len}
+use Rattle.nagsched_protocol.specs.JsonText.{first_tokens, list_begins, object_tokens}
+use Rattle.nagsched_protocol.proofs.json_text.json_list_line.Given as goal
+
+abbrev pub invariant-loop-number : goal.invariant-loop-number
+invariant-loop-number l =
+    (l.json.before ≡ [])
+    × (l.json.tokens ≡ (first_tokens l.line ++ list_begins) ++ flat_map (object_tokens l.sched) (range_with_len 0 l.number))
