@@ -78,7 +78,7 @@ fn do_job<H: Threads + Wait + Sync, R: Read, W: Write>(
 {
     match request {
         Job::Run { start } => run(alloc, start, reader, writer),
-        Job::Live { start, form } => live(alloc, form, start, reader, writer),
+        Job::Live { start } => live(alloc, start, reader, writer),
         Job::Check { start } => check(alloc, start, reader, writer),
         Job::SetupLine => write_setup_line(alloc, reader, writer),
         Job::Drill {

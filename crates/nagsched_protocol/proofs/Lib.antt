@@ -9,7 +9,6 @@ pub mod DrillLemmas
 pub mod OutputLemmas
 pub mod WrittenLemmas
 pub mod TextLemmas
-pub mod JsonLemmas
 pub mod LiveLaws
 pub mod NameLengthLemmas
 pub mod FlatLemmas

@@ -20,13 +20,7 @@ use Rattle.nagsched_protocol.specs.Output.{EndsLine}
 use Rattle.check_objects.specs.Configuration.{name_of, object_count}
 use Rattle.check_sched.specs.State.{next_of, run_number_of, standing_at}
 use Rattle.nagsched_protocol.specs.Text.{answer_line, text_from, entry_line, line_of, list_lines, listed_line, listed_text, reply_text, saved_line}
-use Rattle.nagsched_protocol.specs.Text.{answer_of, input_refusal_text, refused_text, state_after_command, total_line, total_text}
-use Rattle.nagsched_protocol.specs.declared.answer_form.AnswerForm.{AnswerForm}
-use Rattle.nagsched_protocol.specs.declared.answer_form.AnswerForm.TheVariants as forms
-use Rattle.nagsched_protocol.specs.declared.refusal.InputRefusal.{InputRefusal}
-use Rattle.nagsched_protocol.specs.Forms.{answer_text, refusal_text}
-use Rattle.nagsched_protocol.specs.JsonText.{answer_members, json_list_line, json_saved_line, json_saved_text, list_members, object_text, refusal_answer}
-use Rattle.nagsched_protocol.specs.JsonText.{refused_line}
+use Rattle.nagsched_protocol.specs.Text.{state_after_command, total_line, total_text}
 
 -- a command leaves the setup
 pub command_keeps : (s : State) (c : RunCommand) → (state_after_command s c).setup ≡ s.setup
@@ -64,7 +58,7 @@ range_more n =
     sym (map-id (range_with_len 0 (n + 1))) ∙ map-range_with_len_more (λ k. k) 0 n n (omega arith) ∙ ap (λ l. l ++ n ∷ []) (map-id (range_with_len 0 n))
 
 -- the lines go on with the next object's
-pub listed_more : {A : Type 0} (f : ℕ → List A) (n : ℕ) (head was more : List A) → more ≡ was ++ f n → was ≡ head ++ flat_map f (range_with_len 0 n)
+pub listed_more : (f : ℕ → List ℕ) (n : ℕ) (head was more : List ℕ) → more ≡ was ++ f n → was ≡ head ++ flat_map f (range_with_len 0 n)
     → more ≡ head ++ flat_map f (range_with_len 0 (n + 1))
 listed_more f n head was more pushed before =
     pushed ∙ ap (λ l. l ++ f n) before ∙ flat_map_more f head (range_with_len 0 n) n ∙ ap (λ l. head ++ flat_map f l) (sym (range_more n))
@@ -83,18 +77,6 @@ unfolding saved_line list_lines
 answer_line_ends s (command.Call call) = (reply_text s.setup call (step s call).1, refl)
 answer_line_ends s command.Save = (codes "saved " ++ saved_text (saved_of s), refl)
 answer_line_ends s command.List = listed_ends s (object_count s.setup) 0 (codes "listed " ++ decimal (object_count s.setup))
-
--- the same in each form
-pub answer_text_ends : (form : AnswerForm) (n : ℕ) (s : State) (c : RunCommand) → EndsLine (answer_text form n s c)
-unfolding json_saved_line json_list_line
-answer_text_ends forms.Words n s c = answer_line_ends s c
-answer_text_ends forms.Json n s (command.Call call) = (object_text n (answer_members (answer_of s.setup call (step s call).1)), refl)
-answer_text_ends forms.Json n s command.Save = (json_saved_text n s, refl)
-answer_text_ends forms.Json n s command.List = (object_text n (list_members s), refl)
-
-pub refusal_text_ends : (form : AnswerForm) (why : InputRefusal) → EndsLine (refusal_text form why)
-refusal_text_ends forms.Words why = (refused_text (input_refusal_text why), refl)
-refusal_text_ends forms.Json why = (object_text (refused_line why) (answer_members (refusal_answer why)), refl)
 
 pub entry_line_ends : (c : Configuration) (e : Entry Call Reply) → EndsLine (entry_line c e)
 entry_line_ends c e =

@@ -14,8 +14,6 @@ pub mod Scripted
 pub mod Agreement
 pub mod Start
 pub mod Text
-pub mod JsonText
-pub mod Forms
 pub mod LiveText
 pub mod Capacity
 pub mod Output

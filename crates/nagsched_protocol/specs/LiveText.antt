@@ -1,11 +1,10 @@
--- The text that a conversation writes: a function of the form of its answers, of how its scheduler starts, and of the input. In words it is a run's text.
+-- The text that a conversation writes: a function of how its scheduler starts and of the input. Its wording is that of a run's text.
 use Rattle.std.specs.Prelude.{ℕ, ◌≡◌, ◌+◌, ⊤, true, List, [], ◌∷◌, ◌++◌, Option, Some, None, Result, Ok, Err}
 use Rattle.check_objects.specs.Configuration.{Configuration}
 use Rattle.check_objects.specs.Setup.{setup_of}
 use Rattle.check_saved_state.specs.Saved.{Saved}
 use Rattle.check_saved_state.specs.Text.{saved_of_text}
 use Rattle.check_sched.specs.State.{State}
-use Rattle.nagsched_protocol.specs.declared.answer_form.AnswerForm.{AnswerForm}
 use Rattle.nagsched_protocol.specs.declared.command.RunCommand.{RunCommand}
 use Rattle.nagsched_protocol.specs.declared.refusal.InputRefusal.{InputRefusal}
 use Rattle.nagsched_protocol.specs.declared.start.Start.{Start}
@@ -14,14 +13,13 @@ use Rattle.nagsched_protocol.specs.Command.{command_by}
 use Rattle.nagsched_protocol.specs.Input.{first_line_of, lines_of}
 use Rattle.nagsched_protocol.specs.LiveInput.{rest_after_line, has_feed, line_meaning_by}
 use Rattle.nagsched_protocol.specs.Script.{Beginning, beginning_of}
-use Rattle.nagsched_protocol.specs.Forms.{answer_text, refusal_text}
-use Rattle.nagsched_protocol.specs.Text.{state_after_command}
+use Rattle.nagsched_protocol.specs.Text.{answer_line, refusal_line, state_after_command}
 
--- the answer to the line with number n, in this form: nothing to a blank one, the answer to a command, or the refusal
-abbrev pub line_answer : AnswerForm → State → ℕ → Result (Option RunCommand) InputRefusal → List ℕ
-line_answer form s n (Ok None) = []
-line_answer form s n (Ok (Some command)) = answer_text form n s command
-line_answer form s n (Err why) = refusal_text form why
+-- the answer to a line: nothing to a blank one, the line of the answer to a command, or the line of the refusal
+abbrev pub line_answer : State → Result (Option RunCommand) InputRefusal → List ℕ
+line_answer s (Ok None) = []
+line_answer s (Ok (Some command)) = answer_line s command
+line_answer s (Err why) = refusal_line why
 
 -- the state after that line: only calls change it
 abbrev pub state_after_line : State → Result (Option RunCommand) InputRefusal → State
@@ -34,20 +32,19 @@ abbrev pub line_meaning : State → ℕ → List ℕ → Result (Option RunComma
 line_meaning s n line = line_meaning_by (command_by s.setup) n line
 
 -- the answers to these lines, one after another, from this state on; the first line has the number n
-abbrev pub answers_from : AnswerForm → State → ℕ → List (List ℕ) → List ℕ
-answers_from form s n [] = []
-answers_from form s n (line ∷ lines) =
-    line_answer form s n (line_meaning s n line) ++ answers_from form (state_after_line s (line_meaning s n line)) (n + 1) lines
+abbrev pub answers_from : State → ℕ → List (List ℕ) → List ℕ
+answers_from s n [] = []
+answers_from s n (line ∷ lines) = line_answer s (line_meaning s n line) ++ answers_from (state_after_line s (line_meaning s n line)) (n + 1) lines
 
--- the answers to the lines of a beginning, or its refusal
-abbrev pub answers_over : AnswerForm → Result Beginning InputRefusal → List ℕ
-answers_over form (Ok b) = answers_from form b.state b.number (lines_of b.rest)
-answers_over form (Err why) = refusal_text form why
+-- the answers to the lines of a beginning, or the line of its refusal
+abbrev pub answers_over : Result Beginning InputRefusal → List ℕ
+answers_over (Ok b) = answers_from b.state b.number (lines_of b.rest)
+answers_over (Err why) = refusal_line why
 
--- The text that a conversation writes on the input. If its setup or its saved state is refused, it is this refusal. Otherwise it is, for each later
--- line in order, nothing, its refusal or its answer.
-unfoldable pub live_text : AnswerForm → Start → List ℕ → List ℕ
-live_text form how input = answers_over form (beginning_of how input)
+-- The text that a conversation writes on the input. If its setup or its saved state is refused, it is the line of this refusal. Otherwise it is, for
+-- each later line in order, nothing, the line of its refusal or the line of its answer.
+unfoldable pub live_text : Start → List ℕ → List ℕ
+live_text how input = answers_over (beginning_of how input)
 
 -- ---- conditions of the laws
 

@@ -21,18 +21,15 @@
 //!
 //! - `text`: the text of each line, with one definition for all subcommands. `refusal_text` has the refusals.
 //! - `listing`: the lines of all objects.
-//! - `json_text`: the same answers as JSON objects. `answer_form` names the two forms.
 //! - `output`: gives bytes to a writer, all of them or up to a fault.
 //! - `laws`: laws of the text of a conversation, and the limits of an input and of a reply.
 
-mod answer_form;
 mod command;
 mod drill_command;
 mod drill_script;
 mod drive_error;
 mod flat_line;
 mod input;
-mod json_text;
 pub mod laws;
 mod line;
 mod line_reader;
@@ -47,7 +44,6 @@ mod script;
 mod start;
 mod text;
 
-pub use answer_form::AnswerForm;
 pub use command::RunCommand;
 pub use drill_command::DrillCommand;
 pub use drill_script::DrillScript;
@@ -60,10 +56,7 @@ pub use line_reader::{
 };
 pub use live_error::LiveError;
 pub use outcome::{Ended, Outcome};
-pub use output::{
-    flush, print_text, refuse_as, write_json_list, write_json_reply, write_json_saved, write_list,
-    write_refusal, write_saved, write_text,
-};
+pub use output::{flush, print_text, write_list, write_refusal, write_saved, write_text};
 pub use reader::{ReaderFault, ask_reader};
 pub use refusal::{InputRefusal, LineFault, ScriptError};
 pub use refusal_text::push_refusal;

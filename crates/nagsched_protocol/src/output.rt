@@ -1,23 +1,18 @@
 //! Gives bytes to a writer: a text, the line of a refusal or of a saved state, the lines of all objects,
-//! and the flush at the end. The modules `text`, `refusal_text`, `listing` and `json_text` make the lines.
+//! and the flush at the end. The modules `text`, `refusal_text` and `listing` make the lines.
 
 ghost use Rattle.std.specs.Prelude.{OnOk, OnErr, IsOkUnless};
 ghost use Rattle.std.specs.Io.KnownBytes.{Appends, Keeps};
 ghost use Rattle.nagsched_protocol.specs.Output.{WroteFront};
-ghost use Rattle.nagsched_protocol.specs.Forms.{refusal_text};
-ghost use Rattle.nagsched_protocol.specs.JsonText.{json_answer_line, json_list_line, json_refusal_line, json_saved_line};
-ghost use Rattle.nagsched_protocol.specs.Text.{answer_of, list_lines, refusal_line, saved_line};
+ghost use Rattle.nagsched_protocol.specs.Text.{list_lines, refusal_line, saved_line};
 ghost use Rattle.nagsched_protocol.specs.Written.{IsLineWritten};
 
-use crate::answer_form::AnswerForm;
 use crate::drive_error::DriveError;
-use crate::json_text::{json_list_line, json_refusal_line, json_reply_line, json_saved_line};
 use crate::listing::list_lines;
 use crate::refusal::InputRefusal;
 use crate::refusal_text::push_refusal;
 use crate::text::saved_line;
-use check_objects::Setup;
-use check_sched::{Call, Reply, Sched};
+use check_sched::Sched;
 use std::alloc::Global;
 use std::io::Write;
 
@@ -81,87 +76,6 @@ pub fn write_list<W: Write>(alloc: Global, sched: &Sched, writer: &mut W) -> Res
 {
     let lines = list_lines(alloc, sched)?;
     write_text(writer, lines.as_bytes())
-}
-
-/// Writes a refusal in this form. Nothing is flushed. The error is `Write`, and a prefix of the refusal was
-/// written then, or `Memory`, and nothing was written.
-pub fn refuse_as<W: Write>(
-    alloc: Global,
-    form: AnswerForm,
-    refusal: InputRefusal,
-    writer: &mut W,
-) -> Result<(), DriveError>
-    ensures { IsLineWritten result (W.contents writer.old) (W.contents writer.new)
-        (refusal_text form refusal) }
-{
-    match form {
-        AnswerForm::Words => write_refusal(alloc, refusal, writer),
-        AnswerForm::Json => write_json_refusal(alloc, refusal, writer),
-    }
-}
-
-/// Writes the line of a refusal as JSON, like [`write_refusal`].
-#[tactic(auto, using(crate::proofs::WrittenLemmas::line_written, crate::proofs::WrittenLemmas::line_unwritten))]
-fn write_json_refusal<W: Write>(
-    alloc: Global,
-    refusal: InputRefusal,
-    writer: &mut W,
-) -> Result<(), DriveError>
-    ensures { IsLineWritten result (W.contents writer.old) (W.contents writer.new)
-        (json_refusal_line refusal) }
-{
-    let text = json_refusal_line(alloc, refusal)?;
-    write_text(writer, &text)
-}
-
-/// Writes the line of the reply to a call as JSON. The call was made by the line with the number `line`.
-/// Nothing is flushed. The error is `Write`, and a prefix of the line was written then, or `Memory`, and
-/// nothing was written.
-#[tactic(auto, using(crate::proofs::WrittenLemmas::line_written, crate::proofs::WrittenLemmas::line_unwritten))]
-pub fn write_json_reply<W: Write>(
-    alloc: Global,
-    line: usize,
-    setup: &Setup,
-    call: Call,
-    reply: Reply,
-    writer: &mut W,
-) -> Result<(), DriveError>
-    ensures { IsLineWritten result (W.contents writer.old) (W.contents writer.new)
-        (json_answer_line line (answer_of setup.now call reply)) }
-{
-    let text = json_reply_line(alloc, line, setup, call, reply)?;
-    write_text(writer, &text)
-}
-
-/// Writes the line of a scheduler's saved state as JSON, like [`write_saved`]. It answers the line with the
-/// number `line`.
-#[tactic(auto, using(crate::proofs::WrittenLemmas::line_written, crate::proofs::WrittenLemmas::line_unwritten))]
-pub fn write_json_saved<W: Write>(
-    alloc: Global,
-    line: usize,
-    sched: &Sched,
-    writer: &mut W,
-) -> Result<(), DriveError>
-    ensures { IsLineWritten result (W.contents writer.old) (W.contents writer.new)
-        (json_saved_line line sched.now) }
-{
-    let text = json_saved_line(alloc, line, sched)?;
-    write_text(writer, &text)
-}
-
-/// Writes the line of all objects as JSON, like [`write_list`]. It answers the line with the number `line`.
-#[tactic(auto, using(crate::proofs::WrittenLemmas::line_written, crate::proofs::WrittenLemmas::line_unwritten))]
-pub fn write_json_list<W: Write>(
-    alloc: Global,
-    line: usize,
-    sched: &Sched,
-    writer: &mut W,
-) -> Result<(), DriveError>
-    ensures { IsLineWritten result (W.contents writer.old) (W.contents writer.new)
-        (json_list_line line sched.now) }
-{
-    let text = json_list_line(alloc, line, sched)?;
-    write_text(writer, &text)
 }
 
 /// Writes a text and flushes it. The error is `Write`, and a prefix of the text was written then.

@@ -2,7 +2,6 @@
 
 ghost use Rattle.std.specs.Prelude.{◌≡◌, ◌≢◌, ◌≤◌, IfOk, IfErr, string_capacity};
 ghost use Rattle.check_sched.specs.Step.{step};
-ghost use Rattle.nagsched_protocol.specs.Forms.{answer_text, json_line};
 ghost use Rattle.nagsched_protocol.specs.Start.{CanStart};
 ghost use Rattle.nagsched_protocol.specs.Text.{answer_line, line_from, state_after_command, text, text_from};
 ghost use Rattle.nagsched_protocol.specs.Written.{IsLineWritten, IsTextWritten};
@@ -11,9 +10,8 @@ ghost use Rattle.nagsched_protocol.specs.Streams.{streams};
 
 use check_sched::{Call, LAST_MOMENT, Sched};
 use nagsched_protocol::{
-    AnswerForm, DriveError, Ended, MAX_READ_BYTES, Outcome, REPLY_BYTES, RunCommand, Script, Start,
-    flush, push_reply, read_at_most, write_json_list, write_json_reply, write_json_saved,
-    write_list, write_refusal, write_saved, write_text,
+    DriveError, Ended, MAX_READ_BYTES, Outcome, REPLY_BYTES, RunCommand, Script, Start, flush,
+    push_reply, read_at_most, write_list, write_refusal, write_saved, write_text,
 };
 use std::alloc::Global;
 use std::io::{Read, Write};
@@ -136,54 +134,6 @@ pub(crate) fn answer_command<W: Write>(
         RunCommand::Call(call) => make_call(sched, call, line, writer),
         RunCommand::Save => write_saved(alloc, sched, writer),
         RunCommand::List => write_list(alloc, sched, writer),
-    }
-}
-
-/// Carries out one command, and writes its answer in this form. The command is in the line with this number.
-/// The line of a reply in words goes through the buffer `line`. With room for `REPLY_BYTES` in that buffer,
-/// `Memory` comes in words only from `save` and `list`, which change nothing. In JSON it may come after a
-/// call was made.
-pub(crate) fn answer_as<W: Write>(
-    alloc: Global,
-    form: AnswerForm,
-    number: usize,
-    sched: &mut Sched,
-    command: RunCommand,
-    line: &mut String,
-    writer: &mut W,
-) -> Result<(), DriveError>
-    ensures state { sched.new ≡ state_after_command sched.old command }
-    ensures wrote { IsLineWritten result (W.contents writer.old) (W.contents writer.new)
-        (answer_text form number sched.old command) }
-    ensures capacity { string_capacity line.old ≤ string_capacity line.new }
-    ensures sufficient { form ≡ AnswerForm.Words → REPLY_BYTES ≤ string_capacity line.old
-        → IfErr result (λ e. e ≡ DriveError.Memory → sched.new ≡ sched.old) }
-{
-    match form {
-        AnswerForm::Words => answer_command(alloc, sched, command, line, writer),
-        AnswerForm::Json => answer_as_json(alloc, number, sched, command, writer),
-    }
-}
-
-/// Carries out one command, and writes its answer as JSON. The command is in the line with this number.
-fn answer_as_json<W: Write>(
-    alloc: Global,
-    number: usize,
-    sched: &mut Sched,
-    command: RunCommand,
-    writer: &mut W,
-) -> Result<(), DriveError>
-    ensures state { sched.new ≡ state_after_command sched.old command }
-    ensures wrote { IsLineWritten result (W.contents writer.old) (W.contents writer.new)
-        (json_line number sched.old command) }
-{
-    match command {
-        RunCommand::Call(call) => {
-            let reply = sched.apply(call);
-            write_json_reply(alloc, number, sched.setup(), call, reply, writer)
-        }
-        RunCommand::Save => write_json_saved(alloc, number, sched, writer),
-        RunCommand::List => write_json_list(alloc, number, sched, writer),
     }
 }
 
