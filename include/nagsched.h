@@ -371,9 +371,9 @@ enum nagsched_result nagsched_running(const struct nagsched_book *book, uint32_t
  * OK. WRONG: the handle has a pass that waits. */
 enum nagsched_result nagsched_free(struct nagsched_handle *handle);
 
-/* How a call waits for its turn. nagsched_wait waits between two tries: seven pauses, each twice as long as the one before, then sleeps of 10 to 500
+/* How a call waits for its turn. nagsched_wait waits between two tries: seven pauses, each twice as long as the one before, then sleeps of 10 to 100
  * microseconds. It never yields: next to a busy program, a thread that yields gets its processor back only after milliseconds, and all later callers
- * would wait for it. nagsched_rest follows the last try. If the call slept, it sleeps 16 times as long, 10 milliseconds at most: without rests, each
+ * would wait for it. nagsched_rest follows the last try. If the call slept, it sleeps 16 times as long, 50 milliseconds at most: without rests, each
  * call of waiting threads would take a sleep. A call begins with {0, 0}. */
 struct nagsched_patience {
     uint32_t pauses;
@@ -382,17 +382,17 @@ struct nagsched_patience {
 
 static inline void nagsched_wait(struct nagsched_patience *patience) {
     uint32_t left, slept = patience->slept;
-    struct timeval time = {0, slept < 10 ? 10 : slept < 500 ? slept : 500};
+    struct timeval time = {0, slept < 10 ? 10 : slept < 100 ? slept : 100};
     if (patience->pauses < 7) {
         for (left = 1u << patience->pauses++; left > 0; left--) __builtin_ia32_pause();
         return;
     }
-    if (slept < 10000) patience->slept += (uint32_t)time.tv_usec;
+    if (slept < 50000) patience->slept += (uint32_t)time.tv_usec;
     select(0, NULL, NULL, NULL, &time);
 }
 
 static inline void nagsched_rest(const struct nagsched_patience *patience) {
-    struct timeval time = {0, patience->slept < 625 ? 16 * patience->slept : 10000};
+    struct timeval time = {0, patience->slept < 3125 ? 16 * patience->slept : 50000};
     if (patience->slept > 0) select(0, NULL, NULL, NULL, &time);
 }
 

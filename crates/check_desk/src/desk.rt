@@ -247,7 +247,7 @@ impl Desk {
     /// and nothing is done, exactly if the pass has no call left.
     ///
     /// The contract holds when the call returns. It doesn't say how long the call waits. A caller that waits
-    /// for more than some microseconds sleeps, and rests before the call returns, for up to 10 milliseconds.
+    /// for more than some microseconds sleeps, and rests before the call returns, for up to 50 milliseconds.
     #[tactic(auto, using(crate::proofs::PassLemmas::seen_history))]
     pub fn ask(&self, rt: &impl Wait, pass: Pass, call: Call) -> (Pass, Answer)
         requires { IsPassOf self.now pass }

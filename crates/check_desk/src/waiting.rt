@@ -13,13 +13,13 @@ const PAUSES: u32 = 7;
 const FIRST_SLEEP: u64 = 10;
 
 /// The longest sleep between polls, in microseconds.
-const LONGEST_SLEEP: u64 = 500;
+const LONGEST_SLEEP: u64 = 100;
 
 /// How many times as long as all its sleeps a caller rests.
 const REST: u64 = 16;
 
 /// The longest rest, in microseconds.
-const LONGEST_REST: u64 = 10_000;
+const LONGEST_REST: u64 = 50_000;
 
 /// How long a caller has waited, from its ticket to the end of its call.
 #[derive(Drop)]
@@ -57,7 +57,8 @@ impl Patience {
     }
 
     /// Rests after the call, if the caller slept. Without rests, callers that sleep would follow each other,
-    /// and each of their calls would take a sleep. A caller that rests has no ticket, so nobody waits for it.
+    /// and each of their calls would take a sleep. A rest is much longer than the sleeps, since
+    /// callers that come back early would meet again. A caller that rests has no ticket, so nobody waits for it.
     pub(crate) fn rest(&self, rt: &impl Wait) {
         if 0 < self.slept {
             sleep(rt, self.slept.saturating_mul(REST).min(LONGEST_REST));
