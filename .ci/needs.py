@@ -49,7 +49,7 @@ PROGRAMS = {
     "carbon-cache": Program("graphite-carbon", "", "Graphite, which gets performance data"),
     "amtool": Program("prometheus-alertmanager", "", "the settings for Alertmanager"),
     "pip": Program("python3-pip", "", "the installation of the Python package by pip"),
-    "valgrind": Program("valgrind", "", "tests/memcheck.sh (not a part of the gate)"),
+    "valgrind": Program("valgrind", "", "c/tests/memcheck.sh (not a part of the gate)"),
     "dpkg-deb": Program("dpkg", "", "tools/package.sh (not a part of the gate)"),
 }
 PARTS_FOR = {"try": "tools/try.sh", "quick": "tools/test.sh --quick", "test": "tools/test.sh"}

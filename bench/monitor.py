@@ -4,7 +4,7 @@
     bench/monitor.py PROGRAM [--write] [RATE..]     manually; needs cc, the runner that monitor/build_runner.sh makes, and Debian's package nagios4-core,
                                                     which it fetches and unpacks into a temporary folder
 
-With --write the figures replace those of bench/results/monitor.tsv, and `.ci/generated.py` then writes them to the pages. That needs a machine with no other
+With --write the figures replace those of bench/results/monitor.tsv, and `.ci/pages/generated.py` then writes them to the pages. That needs a machine with no other
 work, all rates, and ten minutes.
 
 For each rate (18, 200, 500, 800 and 2,000 checks due per second) both run the same services for SECONDS, one after the other. Each service is checked every

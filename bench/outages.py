@@ -60,7 +60,7 @@ class Site:
             file.truncate(MEGABYTES << 20)
         subprocess.run(["mkfs.ext4", "-q", "-m", "0", image], check=True)
         subprocess.run(["mount", "-o", "loop", image, self.mount], check=True)
-        subprocess.run([sys.executable, TOP / "tools/from_nagios.py", "--site", self.folder, "--resource", nagios / "resource.cfg", nagios / "nagios.cfg",
+        subprocess.run([sys.executable, TOP / "monitor/from_nagios/from_nagios.py", "--site", self.folder, "--resource", nagios / "resource.cfg", nagios / "nagios.cfg",
                         nagios / "objects.precache"], check=True, stderr=subprocess.DEVNULL)
         plugin = self.control / "plugin"
         plugin.write_text(PLUGIN)

@@ -4,7 +4,7 @@
     bench/parts.py PROGRAM [SECONDS [--write]]      manually; with --write the figures replace those of bench/results/parts.tsv
 
 Two networks of Nagios's own files, one behind a single gateway and one in a tree of ten children each, every object checked every five minutes. For each:
-parts and mirrors; seconds, processor seconds and megabytes of `tools/from_nagios.py --site`. Then the monitor runs it for SECONDS (300) with plugins that
+parts and mirrors; seconds, processor seconds and megabytes of `monitor/from_nagios/from_nagios.py --site`. Then the monitor runs it for SECONDS (300) with plugins that
 end at once. The figures of that run are checks per second over the second half, and their lateness at the median and the 95th percentile, in milliseconds.
 Then processor milliseconds per check, and resident megabytes of all processes except plugins. Last the seconds of a restart until it answers, and of a reload.
 """
@@ -34,7 +34,7 @@ def prepare_site(folder, children):
     """Makes the folder of a site: parts, mirrors, seconds, processor seconds, megabytes."""
     write_network(folder, HOSTS, SERVICES, children)
     begin = time.monotonic()
-    made = subprocess.Popen([sys.executable, TOP / "tools/from_nagios.py", "--site", folder / "site", folder / "nagios.cfg", folder / "objects.precache"],
+    made = subprocess.Popen([sys.executable, TOP / "monitor/from_nagios/from_nagios.py", "--site", folder / "site", folder / "nagios.cfg", folder / "objects.precache"],
                             stderr=subprocess.DEVNULL)
     _, status, used = os.wait4(made.pid, 0)
     seconds = time.monotonic() - begin

@@ -1,4 +1,4 @@
-"""Writes a table of measured figures into bench/results/, with the command, the commit, the machine and the date. .ci/figures.py reads it."""
+"""Writes a table of measured figures into bench/results/, with the command, the commit, the machine and the date. .ci/pages/figures.py reads it."""
 import datetime
 import os
 import pathlib

@@ -7,7 +7,7 @@
 # Needs rt, python3, cc and the binutils: ld, ar, objcopy.
 set -eu -o pipefail
 top=$(cd "$(dirname "$0")/.." && pwd)
-header=$top/include/nagsched.h
+header=$top/c/nagsched.h
 kit=$(dirname "$(rt doc)")
 heap=$kit/c/liblibc_c.a
 proved=
@@ -60,7 +60,7 @@ sed -n -E 's/^(uint32_t|enum nagsched_result) (nagsched_[a-z_]*)\(.*/\2/p' "$hea
 sed -n -E 's/^enum nagsched_result nagsched_([a-z_]*)\(.*/nagsched_\1 nagsched_proved_\1/p' "$header" > "$work/names.proved"
 ld -r -o "$work/proved.o" --whole-archive "$top/crates/nagsched_c/out/libnagsched_c.a" --no-whole-archive "$heap"
 objcopy --redefine-syms="$work/names.proved" "$work/proved.o"
-cc -std=c11 -O2 -Wall -Wextra -Werror -fPIC -I"$top/include" -c "$top/bindings/c/guard.c" -o "$work/guard.o"
+cc -std=c11 -O2 -Wall -Wextra -Werror -fPIC -I"$top/c" -c "$top/c/guard.c" -o "$work/guard.o"
 
 # One object with everything that the library needs, whose other names are local.
 ld -r -o "$work/nagsched.o" "$work/guard.o" "$work/proved.o"

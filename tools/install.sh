@@ -36,10 +36,10 @@ done
 place 755 "$top/monitor/nagsched-gearman-runner" lib/nagsched/nagsched-gearman-runner
 place 755 "$runner" lib/nagsched/nagsched-runner
 ln -sf ../lib/nagsched/nagsched-runner "$root/bin/nagsched-runner"
-for module in "$top"/tools/nagios_*.py; do
+for module in "$top"/monitor/from_nagios/nagios_*.py; do
     place 644 "$module" "lib/nagsched/$(basename "$module")"
 done
-place 755 "$top/tools/from_nagios.py" lib/nagsched/from_nagios.py
+place 755 "$top/monitor/from_nagios/from_nagios.py" lib/nagsched/from_nagios.py
 place 644 "$top/VERSION" lib/nagsched/VERSION
 place 755 "$top/tools/second_opinion.py" lib/nagsched/second_opinion.py
 for file in "$top"/tools/second_opinion_*.py "$top"/tools/second_opinion.{cfg,html}; do
@@ -70,20 +70,17 @@ python3 "$top/tools/pages.py" "$pages"
 for page in "$pages"/*; do
     place 644 "$page" "share/doc/nagsched/$(basename "$page")"
 done
-for example in office.txt office.out sequence.txt sequence.out drill.txt drill.out embed.c loop.c alertmanager.yml alert_rules.yml prometheus.yml; do
-    place 644 "$top/examples/$example" "share/doc/nagsched/examples/$example"
+for example in "$top"/examples/*.{txt,out} "$top"/c/examples/*.c "$top"/monitor/examples/*.yml; do
+    place 644 "$example" "share/doc/nagsched/examples/$(basename "$example")"
 done
-for example in embed.py loop.py monitor.py mail_change.py spool_to_graphite.py; do
-    place 755 "$top/examples/$example" "share/doc/nagsched/examples/$example"
+for example in "$top"/{examples,python/examples,monitor/examples}/*.py; do
+    place 755 "$example" "share/doc/nagsched/examples/$(basename "$example")"
 done
 # The loop in Rattle is a part of nagsched_loop: its file and, in a folder, the modules that it names.
 place 644 "$top/crates/nagsched_loop/src/months.rt" share/doc/nagsched/examples/loop.rt
 for module in environment fault resuming round runs; do
     place 644 "$top/crates/nagsched_loop/src/$module.rt" "share/doc/nagsched/examples/loop/$module.rt"
 done
-# The first programs on the pages about C and Python.
-place 644 "$top/examples/first.c" share/doc/nagsched/examples/first.c
-place 755 "$top/examples/first.py" share/doc/nagsched/examples/first.py
 echo "install: $(python3 "$top/tools/build_file.py" show "$program"), in $root"
 [ -n "$library" ] || exit 0
 place 644 "$built/include/nagsched.h" include/nagsched.h
@@ -95,6 +92,6 @@ done
 sed "s#^prefix=.*#prefix=$prefix#" "$built/lib/pkgconfig/nagsched.pc" > "$unit"
 place 644 "$unit" lib/pkgconfig/nagsched.pc
 # py.typed declares that type checkers may use the package's types.
-for file in "$top"/bindings/python/nagsched/*.py "$top/bindings/python/nagsched/py.typed"; do
+for file in "$top"/python/nagsched/*.py "$top/python/nagsched/py.typed"; do
     place 644 "$file" "lib/python3/dist-packages/nagsched/$(basename "$file")"
 done

@@ -19,7 +19,7 @@ from manual_roff import body, roff_inline, roff_line, roff_text, tidy_lines
 TOP = pathlib.Path(__file__).resolve().parent.parent
 DATE = "2026-11-28"
 VERSION = (TOP / "VERSION").read_text(encoding="utf-8").strip()
-HEADER = (TOP / "include/nagsched.h").read_text(encoding="utf-8")
+HEADER = (TOP / "c/nagsched.h").read_text(encoding="utf-8")
 SUMMARY = {
     ("nagsched", 1): "decide which host or service is checked next, and what each result means",
     ("nagsched", 5): "setup, saved states and refusals of nagsched",

@@ -1,4 +1,4 @@
-"""The manual pages of section 3, made from the comments of include/nagsched.h.
+"""The manual pages of section 3, made from the comments of c/nagsched.h.
 
 nagsched(3) has the first comment and the types. Each later comment with the functions after it is a page under the name of the first of them, and the
 names of the others lead there.

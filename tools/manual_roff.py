@@ -6,10 +6,12 @@ from typing import Iterator, List, Optional, Tuple
 WIDTH = 110
 # Names that differ in an installation.
 INSTALLED = {
-    "tools/from_nagios.py": "nagsched-from-nagios",
     "monitor/nagsched-monitor": "nagsched-monitor",
     "crates/nagsched/out/nagsched": "nagsched",
     "tools/timeline.py": "timeline.py",
+    "c/examples/": "examples/",
+    "python/examples/": "examples/",
+    "monitor/examples/": "examples/",
     "examples/": "share/doc/nagsched/examples/",
     "docs/": "share/doc/nagsched/",
 }

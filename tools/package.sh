@@ -15,7 +15,7 @@ packages=$(cd "${1:-$top/out/packages}" && pwd)
 # A version such as 1.0.0-dev comes before 1.0.0, which Debian writes with a tilde.
 version=$(tr - '~' < "$top/VERSION")
 maintainer="Luksmeiro <nagsched@luksmeiro.example>"
-surface=$(sed -n 's/^#define NAGSCHED_VERSION \([0-9]*\)u$/\1/p' "$top/include/nagsched.h")
+surface=$(sed -n 's/^#define NAGSCHED_VERSION \([0-9]*\)u$/\1/p' "$top/c/nagsched.h")
 work=$(mktemp -d)
 trap 'rm -rf "$work"' EXIT
 DESTDIR=$work/all "$top/tools/install.sh" /usr

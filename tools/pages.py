@@ -15,8 +15,8 @@ PICTURES = ("docs/office.svg", "docs/page.png", "docs/parts.svg", "docs/sequence
 NAMES = (
     (r"crates/nagsched/out/nagsched\b", "nagsched"),
     (r"(?<![\w/])monitor/nagsched-(monitor|gearman-worker)\b(?!@)", r"nagsched-\1"),
-    (r"(?<![\w/])tools/from_nagios\.py", "nagsched-from-nagios"),
     (r"(?<![\w/])tools/second_opinion\.py", "nagsched-second-opinion"),
+    (r"\b(?:c|python|monitor)/examples/", "examples/"),
     (r"\[docs/(\w+\.md)\]", r"[\1]"),
     (r"\]\((?:docs|\.\.)/", "]("),
 )

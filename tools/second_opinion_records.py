@@ -9,8 +9,8 @@ import time
 from typing import NamedTuple, Optional
 
 HERE = pathlib.Path(__file__).resolve().parent
-# The judge's modules and the monitor's are in this folder once installed, otherwise in their own folders of the repository.
-sys.path += [str(HERE / "judge"), str(HERE.parent / "conformance/nagios"), str(HERE.parent / "monitor")]
+# The modules of the judge, the monitor and the converter are in this folder once installed, otherwise in their own folders of the repository.
+sys.path += [str(HERE / "judge"), *(str(HERE.parent / folder) for folder in ("conformance/nagios", "monitor", "monitor/from_nagios"))]
 import from_nagios
 import nagios_values
 from model import HARD, SOFT, Setup

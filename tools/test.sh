@@ -63,7 +63,7 @@ part() {
 lane() {
     local name
     for name; do
-        part "$name" python3 ".ci/$name.py" "$program"
+        part "$name" python3 .ci/*/"$name.py" "$program"
     done
 }
 
@@ -119,12 +119,12 @@ run_gate() {
     lane monitor &
     lane "${short[@]}" generations &
     # The installation has the library too, so it waits for it.
-    { await_program nagsched_c; part c_library nice python3 .ci/c_library.py "$program" "${proved[@]}"; lane install; } &
+    { await_program nagsched_c; part c_library nice python3 .ci/deliverables/c_library.py "$program" "${proved[@]}"; lane install; } &
     part conformance python3 conformance/check "$program"
-    part names python3 .ci/names.py
+    part names python3 .ci/pages/names.py
     wait "$proofs"
     count ci
-    part edits nice python3 .ci/edits.py "${proved[@]}"
+    part edits nice python3 .ci/edits/edits.py "${proved[@]}"
     wait
     report edits conformance names "${short[@]}" generations monitor c_library install
     # The must-fail edits that were refused for another reason than a clause, or couldn't be tried.
@@ -139,7 +139,7 @@ run_quick() {
     lane monitor &
     lane "${short[@]}" install &
     part conformance python3 conformance/check "$program"
-    part names python3 .ci/names.py
+    part names python3 .ci/pages/names.py
     wait
     report conformance names "${short[@]}" monitor install
     echo "Not run, since they need proofs: rt ci with its must-fail edits and tests, edits, generations, c_library."

@@ -27,4 +27,4 @@ tell "this is examples/office.out, to the byte"
 built=$(python3 tools/build_file.py show "$program")
 echo "$built"
 [[ $built != *"not proved" ]] || echo "This program isn't proved: tools/test.sh proves it, and tools/test.sh --quick runs the tests that need no proof."
-echo "Next, a site to look at: monitor/build_runner.sh && monitor/nagsched-monitor --page 127.0.0.1:8080 examples/site"
+echo "Next, a site to look at: monitor/build_runner.sh && monitor/nagsched-monitor --page 127.0.0.1:8080 monitor/examples/site"

@@ -9,7 +9,7 @@ from typing import Any, Dict, Sequence
 
 from .waiting import LONG
 
-SCRIPT = pathlib.Path(__file__).resolve().parents[2] / "tools/from_nagios.py"
+SCRIPT = pathlib.Path(__file__).resolve().parents[1] / "from_nagios/from_nagios.py"
 
 
 def defined(kind: str, members: Dict[str, str]) -> str:

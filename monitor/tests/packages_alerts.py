@@ -39,7 +39,7 @@ inhibit_rules:
 """
 SERVICES = ("db;disk", "db;load", "db;old", "web;http", "quiet;disk")
 REMARKED = ("a;disk", "b;load", "web;http", "quiet;disk")  # each on a host of its own: a message of the example has all problems of a host
-EXAMPLE = HERE.parent / "examples/alertmanager.yml"
+EXAMPLE = HERE / "examples/alertmanager.yml"
 # What services want of notifications, by the example.
 WISHES: Dict[str, Dict[str, Any]] = {"a;all": {}, "b;off": {"enabled": False}, "c;none": {"options": []}, "d;critical": {"options": ["critical", "recovery"]},
                                      "e;ends": {"options": ["warning", "critical", "unknown"]}, "f;warning": {"options": ["warning", "recovery"]}}

@@ -15,14 +15,14 @@ from nagsched_monitor.store.store import Write
 from .one_scheduler import OneScheduler, StandingParts, is_change, standing_parts
 from .simulated import PROGRAM, Plugin, SimulatedClock, SimulatedMonitor, SiteTest
 
-TOOLS = pathlib.Path(__file__).resolve().parent.parent.parent / "tools"
+CONVERTER = pathlib.Path(__file__).resolve().parents[1] / "from_nagios"
 OPTIONS = {"interval_length": 1, "host_inter_check_delay_method": "s", "service_inter_check_delay_method": "s"}
 
 
-def tool(name: str) -> Any:
-    """A module of tools/."""
-    if str(TOOLS) not in sys.path:
-        sys.path.insert(0, str(TOOLS))
+def converter_module(name: str) -> Any:
+    """A module of the converter."""
+    if str(CONVERTER) not in sys.path:
+        sys.path.insert(0, str(CONVERTER))
     return importlib.import_module(name)
 
 
@@ -85,7 +85,7 @@ class PartedSiteTest(SiteTest):
 
     def write_cut(self, setup: Dict[str, Any], objects: int) -> int:
         """The files of a site that is cut into parts of at most this many objects; returns the number of parts."""
-        parts = tool("nagios_parts")
+        parts = converter_module("nagios_parts")
         setups, mirrors = parts.parts_of(setup, parts.Limits(objects=objects))
         self.write_parts(setups, mirrors)
         return len(setups)

@@ -11,7 +11,7 @@ from typing import Dict
 from nagsched_monitor.outputs.alertmanager import FLAPPING, HEARTBEAT, PROBLEM, SEVERITIES
 from nagsched_monitor.outputs.object_columns import HOST_STATES, SERVICE_STATES
 
-EXAMPLES = pathlib.Path(__file__).resolve().parent.parent.parent / "examples"
+EXAMPLES = pathlib.Path(__file__).resolve().parents[1] / "examples"
 
 
 class Examples(unittest.TestCase):
@@ -69,7 +69,7 @@ class Examples(unittest.TestCase):
                 self.assertEqual((ran.returncode == 0, "got:[" in ran.stdout.replace(" ", "").replace("\n", "")), (not is_wrong, is_wrong), (alert, ran.stdout))
 
     def test_each_figure_of_a_rule_is_there(self) -> None:
-        told = (EXAMPLES.parent / "monitor/nagsched_monitor/outputs/metrics.py").read_text()
+        told = (EXAMPLES.parent / "nagsched_monitor/outputs/metrics.py").read_text()
         for line in (EXAMPLES / "alert_rules.yml").read_text().splitlines():
             for word in line.replace("_bucket", "").replace("(", " ").replace("{", " ").replace("[", " ").split() if "expr:" in line else ():
                 if word.startswith("nagsched_"):

@@ -8,7 +8,7 @@ import threading
 import unittest
 from typing import Any, Dict, Sequence
 
-EXAMPLES = pathlib.Path(__file__).resolve().parent.parent.parent / "examples"
+EXAMPLES = pathlib.Path(__file__).resolve().parents[1] / "examples"
 CHANGE = {
     "time": 1_795_766_400.0, "name": "web;http", "state": "CRITICAL", "kind": "HARD", "attempt": 3, "flapping": False, "was": "OK",
     "was_flapping": False, "output": "no answer",

@@ -7,7 +7,7 @@ from typing import Set
 from .running import ProcessTest
 from .waiting import becomes_true
 
-SITE = pathlib.Path(__file__).resolve().parent.parent.parent / "examples/site"
+SITE = pathlib.Path(__file__).resolve().parents[1] / "examples/site"
 STATES = {"OK", "WARNING", "CRITICAL", "UNKNOWN", "UP", "DOWN", "UNREACHABLE", "SOFT", "HARD", "FLAPPING", "PENDING"}
 # Within this time, in seconds, each state has been there.
 PROMISE = 120.0

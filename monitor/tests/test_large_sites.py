@@ -6,7 +6,7 @@ import sys
 from typing import List, Tuple
 
 from .networks import write_network
-from .parted import TOOLS, PartedSiteTest
+from .parted import CONVERTER, PartedSiteTest
 from .simulated import BEGIN
 
 HOSTS, SERVICES = 1_000, 20
@@ -17,10 +17,10 @@ DOWN, UP = BEGIN + 60_000, BEGIN + 150_000
 
 class LargeSites(PartedSiteTest):
     def take_over(self, children: int) -> List[str]:
-        """The folder of the site, made by tools/from_nagios.py within its limits of time and memory."""
+        """The folder of the site, made by the converter within its limits of time and memory."""
         names = write_network(self.folder, HOSTS, SERVICES, children)
         files = (self.folder, self.folder / "nagios.cfg", self.folder / "objects.precache")
-        words = [sys.executable, str(TOOLS / "from_nagios.py"), "--site", *map(str, files)]
+        words = [sys.executable, str(CONVERTER / "from_nagios.py"), "--site", *map(str, files)]
         before = resource.getrusage(resource.RUSAGE_CHILDREN)
         subprocess.run(words, stderr=subprocess.DEVNULL, check=True)
         after = resource.getrusage(resource.RUSAGE_CHILDREN)

@@ -14,7 +14,7 @@ from nagsched_monitor.site.periods import Periods, read_periods
 
 from .waiting import LONG
 
-SCRIPT = pathlib.Path(__file__).resolve().parents[2] / "tools/from_nagios.py"
+SCRIPT = pathlib.Path(__file__).resolve().parents[1] / "from_nagios/from_nagios.py"
 EVERY_DAY = ("monday", "tuesday", "wednesday", "thursday", "friday", "saturday", "sunday")
 LONDON, PARIS, NEW_YORK = "Europe/London", "Europe/Paris", "America/New_York"
 # The periods of Nagios's test suite: the times of each by its days, and the period that it excludes.

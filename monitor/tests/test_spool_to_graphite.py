@@ -11,7 +11,7 @@ from typing import Dict, List
 from .running import MONITOR, ProcessTest
 from .waiting import becomes_true
 
-EXAMPLE = MONITOR.parent.parent / "examples/spool_to_graphite.py"
+EXAMPLE = MONITOR.parent / "examples/spool_to_graphite.py"
 CONFIGURATION = """[cache]
 STORAGE_DIR = {0}/
 CONF_DIR = {0}/

@@ -1,0 +1,245 @@
+#!/usr/bin/env python3
+"""Holds conversations with the program: `nagsched live` answers as `run` does, and answers each line before the next is sent.
+
+    .ci/program/live.py PROGRAM
+
+`live` answers each case of conformance/ that `run` accepts in the same way. A line is sent and its answer read, again and again. 200,000 lines
+are sent at once, while a thread reads. Setups come byte by byte, and with the most bytes that are allowed. A saved state is refused as soon as
+its fault shows, while its input continues. The reader of the answers goes away, or the device is full, which ends in status 3. A conversation's
+memory doesn't grow with the number of its lines. A line of 70 MB is answered in 64 MB, and memory after a million lines is that after a thousand.
+"""
+import fcntl
+import pathlib
+import re
+import resource
+import select
+import struct
+import subprocess
+import sys
+import termios
+import threading
+import time
+
+import harness  # noqa: F401
+from cases import runs
+
+SECONDS = 20
+SETUP = b'{"hosts":[{"name":"gateway","max_check_attempts":3}]}\n'
+TAKE = b'["take",0]\n'
+TAKEN, IDLE = b"taken 1 gateway\n", b"idle none\n"
+DOCUMENT = 16_777_216
+LONG_LINE = 70_000_000
+MEGABYTE = 1 << 20
+ADDRESSES = 64 * MEGABYTE
+
+
+def run_differences(program):
+    """The cases in which `live` writes something else than `run`."""
+    for case in runs():
+        ran = subprocess.run([program, "live", *case.arguments[1:]], input=case.given, capture_output=True, timeout=SECONDS)
+        yield None if (ran.returncode, ran.stdout) == (0, case.wanted) else f"{case.name}: live writes {ran.stdout[:200]!r}"
+
+
+def start_live(program, *words, **how):
+    """A conversation: the program, over two pipes."""
+    return subprocess.Popen([program, "live", *words], **{"stdin": subprocess.PIPE, "stdout": subprocess.PIPE, "bufsize": 0, **how})
+
+
+def send_all(live, rest):
+    """Sends all of it."""
+    rest = memoryview(rest)
+    while rest:
+        rest = rest[live.stdin.write(rest):]
+
+
+def answers_to(live, pieces):
+    """The answers to these pieces, which are sent while a thread reads, and the end of the conversation."""
+    answers = []
+    reading = threading.Thread(target=lambda: answers.append(live.stdout.read()))
+    reading.start()
+    try:
+        for piece in pieces:
+            send_all(live, piece)
+    except BrokenPipeError:
+        pass
+    live.stdin.close()
+    reading.join(SECONDS)
+    return b"".join(answers), live.wait(SECONDS)
+
+
+def difference(what, wanted, came):
+    """A line about a difference from the wanted output, shortened, or nothing."""
+    return None if came == wanted else f"{what}: wanted {repr(wanted)[:200]}, came {repr(came)[:200]}"
+
+
+def line_by_line(program):
+    """Each answer comes before the next line is sent."""
+    with start_live(program) as live:
+        live.stdin.write(SETUP)
+        for number in range(200):
+            live.stdin.write(b"nope\n" if number % 3 == 2 else TAKE)
+            if not select.select([live.stdout], [], [], SECONDS)[0]:
+                live.kill()
+                return f"no answer to line {number + 2}"
+            answer = live.stdout.read(4096)
+            wanted = b"taken 1 gateway\n" if number == 0 else b"refused S2 NotJson %d\n" % (number + 2) if number % 3 == 2 else b"idle none\n"
+            if answer != wanted:
+                live.kill()
+                return f"line {number + 2} is answered by {answer!r}"
+        live.stdin.close()
+        return None if live.wait(SECONDS) == 0 else f"status {live.returncode}"
+
+
+def all_at_once(program, count):
+    """This many lines at once, while a thread reads."""
+    with start_live(program) as live:
+        return difference(f"{count} lines", (TAKEN + IDLE * (count - 1), 0), answers_to(live, [SETUP, TAKE * count]))
+
+
+def unread_bytes(live):
+    """The number of bytes that wait in the program's input."""
+    return struct.unpack("i", fcntl.ioctl(live.stdin.fileno(), termios.FIONREAD, b"\0" * 4))[0]
+
+
+def byte_by_byte(program):
+    """A setup of 3,000 bytes, and then a line of 3,000, each byte sent when the one before was read."""
+    with start_live(program) as live:
+        spaces = b" " * (3_000 - len(SETUP))
+        line = TAKE.replace(b",", b"," + b" " * (3_000 - len(TAKE)))
+        deadline = time.monotonic() + SECONDS
+        for byte in SETUP[:-1] + spaces + b"\n" + line:
+            while unread_bytes(live) and time.monotonic() < deadline:
+                time.sleep(0)
+            send_all(live, bytes([byte]))
+        return difference("bytes one at a time", (TAKEN, 0), answers_to(live, []))
+
+
+def long_setup(program):
+    """A setup of the most bytes that are allowed, and one of one byte more, which is refused before its line ends."""
+    for size, wanted in {DOCUMENT: (TAKEN, 0), DOCUMENT + 1: (b"refused L12 TooLong\n", 1)}.items():
+        with start_live(program) as live:
+            behind = [b"\n", TAKE] if size == DOCUMENT else []
+            wrong = difference(f"a setup of {size} bytes", wanted, answers_to(live, [SETUP[:-1].ljust(size), *behind]))
+            if wrong:
+                return wrong
+    return None
+
+
+def while_open(live, pieces):
+    """The answers to these pieces, and the end of the conversation, while its input stays open."""
+    try:
+        for piece in pieces:
+            send_all(live, piece)
+    except BrokenPipeError:
+        pass
+    try:
+        status = live.wait(SECONDS)
+    except subprocess.TimeoutExpired:
+        live.kill()
+        status = None
+    return live.stdout.read(), status
+
+
+def refused_state(program):
+    """A saved state is refused when its line has come, or as soon as it is too long. The program waits for nothing more."""
+    for pieces, wanted in {
+        (SETUP, b"{\n"): b"refused K2 NotJson\n",
+        (SETUP + b"{\n", TAKE): b"refused K2 NotJson\n",
+        (SETUP, b'{"format":2}\n'): b"refused K3 Version\n",
+        (SETUP, b"x" * DOCUMENT, b"\n"): b"refused K2 NotJson\n",
+        (SETUP, b"x" * DOCUMENT, b"x"): b"refused K1 TooLong\n",
+    }.items():
+        with start_live(program, "--resume") as live:
+            wrong = difference(f"the saved state {pieces[1][:20]!r} ..", (wanted, 1), while_open(live, pieces))
+            if wrong:
+                return wrong
+    return None
+
+
+def limit_memory():
+    """Limits the program's memory, used or not."""
+    resource.setrlimit(resource.RLIMIT_AS, (ADDRESSES, ADDRESSES))
+
+
+def long_line(program):
+    """A line of 70 MB is refused, and the next one answered, by a program with 64 MB of address space."""
+    with start_live(program, preexec_fn=limit_memory) as live:
+        pieces = [SETUP, *[b"x" * MEGABYTE] * (LONG_LINE // MEGABYTE), b"x" * (LONG_LINE % MEGABYTE), b"\n", TAKE]
+        return difference("a line of 70 MB", (b"refused S1 TooLong 2\n" + TAKEN, 0), answers_to(live, pieces))
+
+
+def peak_memory(live):
+    """The most bytes of memory that a program had."""
+    text = pathlib.Path(f"/proc/{live.pid}/status").read_text(encoding="utf-8")
+    return int(re.search(r"VmHWM:\s+(\d+) kB", text)[1]) * 1024
+
+
+def are_answered(live, lines, wanted):
+    """Sends lines while the wanted number of answers is read, and returns whether those came."""
+    sending = threading.Thread(target=send_all, args=(live, lines))
+    sending.start()
+    came = bytearray()
+    while len(came) < len(wanted):
+        if not select.select([live.stdout], [], [], SECONDS)[0]:
+            break
+        came += live.stdout.read(1 << 16)
+    sending.join(SECONDS)
+    return came == wanted
+
+
+def million_lines(program):
+    """The memory after a million lines is the same as after a thousand."""
+    with start_live(program) as live:
+        send_all(live, SETUP)
+        came = are_answered(live, TAKE * 1_000, TAKEN + IDLE * 999)
+        before = peak_memory(live)
+        came = came and are_answered(live, TAKE * 999_000, IDLE * 999_000)
+        grown = peak_memory(live) - before
+        live.stdin.close()
+        if not came or live.wait(SECONDS):
+            return "a million lines are answered otherwise"
+        return None if grown < MEGABYTE else f"a million lines leave {grown} bytes more"
+
+
+def closed_reader(program):
+    """The reader of the answers goes away."""
+    with start_live(program) as live:
+        live.stdin.write(SETUP)
+        live.stdout.close()
+        try:
+            for _ in range(10):
+                live.stdin.write(TAKE)
+        except BrokenPipeError:
+            pass
+        live.stdin.close()
+        return None if live.wait(SECONDS) == 3 else f"a torn pipe ends in status {live.returncode}"
+
+
+def full_device(program):
+    """Nothing can be written: the conversation ends while its input continues."""
+    for given in (SETUP + TAKE, b"{\n"):
+        with open("/dev/full", "wb") as device, start_live(program, stdout=device) as live:
+            send_all(live, given)
+            try:
+                status = live.wait(SECONDS)
+            except subprocess.TimeoutExpired:
+                live.kill()
+                status = None
+            if status != 3:
+                return f"a full device ends in status {status}"
+    return None
+
+
+def main():
+    program = str(pathlib.Path(sys.argv[1]).resolve())
+    faults = [*run_differences(program), all_at_once(program, 70_000), all_at_once(program, 200_000)]
+    faults += [part(program) for part in (line_by_line, byte_by_byte, long_setup, refused_state, long_line, million_lines, closed_reader, full_device)]
+    wrong = [fault for fault in faults if fault is not None]
+    for fault in wrong:
+        print(f"live: {fault}")
+    print(f"live: {len(faults) - len(wrong)} passed, {len(wrong)} failed")
+    return 1 if wrong else 0
+
+
+if __name__ == "__main__":
+    sys.exit(main())
