@@ -9,7 +9,7 @@ import pathlib
 import re
 
 TOP = pathlib.Path(__file__).resolve().parents[2]
-PAGES = [TOP / "README.md", TOP / "CHANGELOG.md", TOP / "conformance/README.md", *sorted((TOP / "docs").rglob("*.md"))]
+PAGES = [TOP / "README.md", TOP / "CHANGELOG.md", TOP / "conformance/README.md", TOP / "crates/README.md", *sorted((TOP / "docs").rglob("*.md"))]
 BLOCK = r"```[^\n]*\n(.*?)^```"
 GENERATED = re.compile(r"(<!-- generated: ([^\n]*?) -->)(.*?)(<!-- end -->)", re.S)
 COMMENT = re.compile(r"<!--.*?-->", re.S)

@@ -149,6 +149,16 @@ def compare_methods(page):
             compare(f"{page.name}: parameters of {name}", True, parameters in known[name])
 
 
+def compare_crates():
+    """The picture of crates/README.md has each crate of crates.txt, and none before one that uses it."""
+    lines = [line.split(":") for line in anchors.text_of(TOP / "crates.txt").splitlines() if not line.startswith("#")]
+    uses = {name.split()[0]: used.split() for name, used in lines}
+    picture = re.findall(anchors.BLOCK, anchors.text_of(TOP / "crates/README.md"), re.S | re.M)[0]
+    shown = [word for word in re.findall(r"\w+", picture) if word in uses]
+    compare("the crates in the picture", sorted(uses), sorted(shown))
+    compare("crates that the picture has before one that uses them", [], [name for place, name in enumerate(shown) if {*uses[name]} & {*shown[:place]}])
+
+
 def compare_messages():
     """The texts in code are found in each language, and comments aren't."""
     for name, code in (
@@ -163,6 +173,7 @@ def compare_messages():
 def main():
     run_examples()
     compare_messages()
+    compare_crates()
     compare_methods(TOP / "docs/embedding-python.md")
     for page in anchors.PAGES:
         text = anchors.text_of(page)
