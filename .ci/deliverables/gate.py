@@ -15,8 +15,8 @@ import sys
 import tempfile
 from typing import Iterator, Tuple
 
-TOP = pathlib.Path(__file__).resolve().parents[2]
-sys.path.append(str(TOP / ".ci/edits"))
+sys.path += [str(pathlib.Path(__file__).resolve().parents[1] / folder) for folder in ("program", "edits")]
+from harness import TOP, Counts
 import clauses
 import goals
 import tried
@@ -141,18 +141,12 @@ def rows_of_edits(work: pathlib.Path) -> Iterator[Row]:
     yield "a TRIED of another kit, of other sources, or of another logic", known and [known.fits(*it) for it in fits], [True, True, False, False]
 
 
-def main() -> int:
-    passed, wrong = 0, 0
+def main() -> None:
+    counts = Counts("gate")
     with tempfile.TemporaryDirectory() as folder:
         for what, came, wanted in [*rows(pathlib.Path(folder)), *rows_of_edits(pathlib.Path(folder))]:
-            if came == wanted:
-                passed += 1
-            else:
-                wrong += 1
-                print(f"gate: {what}: wanted {wanted!r}, came {came!r}")
-    print(f"gate: {passed} passed, {wrong} failed")
-    return 1 if wrong or not passed else 0
+            counts.compare(what, wanted, came)
+    counts.end()
 
 
-if __name__ == "__main__":
-    sys.exit(main())
+main()

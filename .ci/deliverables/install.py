@@ -16,8 +16,8 @@ import subprocess
 import sys
 import tempfile
 
-TOP = pathlib.Path(__file__).resolve().parents[2]
-sys.path.append(str(TOP / ".ci"))
+sys.path.append(str(pathlib.Path(__file__).resolve().parents[1] / "program"))
+from harness import TOP, Harness
 import needs
 
 SETUP = {"hosts": [{"name": "gateway", "max_check_attempts": 3}]}
@@ -135,25 +135,19 @@ def built_parts(work):
 
 def main():
     needs.require("install", "cc")
-    passed, wrong = 0, 0
+    harness = Harness("install")
     with tempfile.TemporaryDirectory() as folder:
         work = pathlib.Path(folder)
         command_output(TOP / "monitor/build_runner.sh")
         told, status = command_output("bash", TOP / "tools/install.sh", work / "prefix")
         rows = [("installing", (told, status), ("", 0)), *built_parts(work), *pip_rows(work)]
         if status == 0:
-            rows[0:1] = [*check_installed(sys.argv[1], work / "prefix", work), *record_rows(sys.argv[1], work / "prefix", work)]
+            rows[0:1] = [*check_installed(harness.program, work / "prefix", work), *record_rows(harness.program, work / "prefix", work)]
         for what, came, wanted in rows:
-            if came == wanted:
-                passed += 1
-            else:
-                wrong += 1
-                print(f"install: {what}: wanted {wanted!r}, came {came!r}")
+            harness.compare(what, wanted, came)
     for name in SHOWN:
         needs.is_here("install", name)
-    print(f"install: {passed} passed, {wrong} failed")
-    return 1 if wrong or not passed else 0
+    harness.end()
 
 
-if __name__ == "__main__":
-    sys.exit(main())
+main()

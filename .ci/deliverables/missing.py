@@ -16,8 +16,8 @@ import sys
 import tempfile
 from typing import Iterator, Tuple
 
-TOP = pathlib.Path(__file__).resolve().parents[2]
-sys.path.append(str(TOP / ".ci"))
+sys.path.append(str(pathlib.Path(__file__).resolve().parents[1] / "program"))
+from harness import TOP, Harness
 import needs
 
 LIMIT = 60
@@ -116,20 +116,14 @@ def stage_rows() -> Iterator[Row]:
         yield f"a stage of at most {limit} seconds", (ran.returncode, wanted in ran.stdout), (status, True)
 
 
-def main(program: str) -> int:
-    passed, wrong = 0, 0
+def main() -> None:
+    harness = Harness("missing")
     with tempfile.TemporaryDirectory() as name:
         folder = pathlib.Path(name)
         link_programs(folder)
-        for what, came, wanted in (*needed_rows(folder), *compiler_rows(folder, program), *optional_rows(folder), *stage_rows(), *try_rows()):
-            if came == wanted:
-                passed += 1
-            else:
-                wrong += 1
-                print(f"missing: {what}: wanted {wanted!r}, came {came!r}")
-    print(f"missing: {passed} passed, {wrong} failed")
-    return 1 if wrong or not passed else 0
+        for what, came, wanted in (*needed_rows(folder), *compiler_rows(folder, harness.program), *optional_rows(folder), *stage_rows(), *try_rows()):
+            harness.compare(what, wanted, came)
+    harness.end()
 
 
-if __name__ == "__main__":
-    sys.exit(main(sys.argv[1] if len(sys.argv) > 1 else "crates/nagsched/out/nagsched"))
+main()

@@ -16,8 +16,8 @@ import sys
 import tempfile
 from concurrent.futures import ThreadPoolExecutor
 
-TOP = pathlib.Path(__file__).resolve().parents[2]
-sys.path.append(str(TOP / ".ci"))
+sys.path.append(str(pathlib.Path(__file__).resolve().parents[1] / "program"))
+from harness import TOP, Harness
 import needs
 
 SETUP = {
@@ -111,8 +111,8 @@ def run_tests(module):
 
 def main():
     needs.require("monitor", "cc")
-    program = str(pathlib.Path(sys.argv[1]).resolve())
-    os.environ["NAGSCHED"] = program
+    harness = Harness("monitor")
+    os.environ["NAGSCHED"] = harness.program
     subprocess.run([TOP / "monitor/build_runner.sh"], check=True)
     os.environ["NAGSCHED_RUNNER"] = str(TOP / "monitor/out/nagsched-runner")
     modules = sorted(file.stem for file in (TOP / "monitor/tests").glob("test_*.py"))
@@ -123,21 +123,13 @@ def main():
         if counts[place][1]:
             print(f"monitor: {module} failed next to other tests, and is tried again by itself")
             counts[place] = run_tests(module)
-    passed, wrong = sum(count[0] for count in counts), sum(count[1] for count in counts)
-    for what, wanted, came in (
-        ("the loop", ["gateway;web page is CRITICAL SOFT 1"], [line for line in loop_output(program) if "SOFT 1" in line]),
-        ("types", "", mypy_report()),
-        ("packages", [], upward_imports()),
-        ("a site of Nagios's files", (0, "15 objects, 1 parts\n", ""), site_output(program)),
-    ):
-        if came == wanted:
-            passed += 1
-        else:
-            wrong += 1
-            print(f"monitor: {what}: wanted {wanted!r}, came {came!r}")
-    print(f"monitor: {passed} passed, {wrong} failed")
-    return 1 if wrong or not passed else 0
+    harness.passed, harness.failed = map(sum, zip(*counts))
+    harness.compare("the loop", ["gateway;web page is CRITICAL SOFT 1"], [line for line in loop_output(harness.program) if "SOFT 1" in line])
+    harness.compare("types", [], mypy_report().splitlines())
+    harness.compare("packages", [], upward_imports())
+    harness.compare("a site of Nagios's files", (0, "15 objects, 1 parts\n", ""), site_output(harness.program))
+    harness.end()
 
 
 if __name__ == "__main__":
-    sys.exit(main())
+    main()

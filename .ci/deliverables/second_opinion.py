@@ -15,7 +15,9 @@ import tempfile
 import time
 import xml.dom.minidom
 
-TOP = pathlib.Path(__file__).resolve().parents[2]
+sys.path.append(str(pathlib.Path(__file__).resolve().parents[1] / "program"))
+from harness import TOP, Harness
+
 RECORDED = TOP / "conformance/nagios/recorded"
 RELOAD, START = 1796084877, 1_800_000_000  # when the recorded Nagios was reloaded, and when written results begin
 LIMIT = 300  # seconds for any run to end
@@ -187,16 +189,13 @@ def check_parts(program: str, work: pathlib.Path):
     yield "a site in parts", (counts(told)["unexplained"], "751  results compared, 751 with equal verdicts" in told) == (0, True)
 
 
-def main() -> int:
-    program = str(pathlib.Path(sys.argv[1]).resolve())
+def main() -> None:
+    harness = Harness("second_opinion")
     with tempfile.TemporaryDirectory() as name:
-        told = [row for check in (check_recorded, check_written, check_followed, check_parts) for row in check(program, pathlib.Path(name))]
-    wrong = [what for what, is_so in told if not is_so]
-    for what in wrong:
-        print(f"second_opinion: {what}: otherwise than wanted")
-    print(f"second_opinion: {len(told) - len(wrong)} passed, {len(wrong)} failed")
-    return 1 if wrong else 0
+        for check in (check_recorded, check_written, check_followed, check_parts):
+            for what, is_so in check(harness.program, pathlib.Path(name)):
+                harness.compare(what, True, is_so)
+    harness.end()
 
 
-if __name__ == "__main__":
-    sys.exit(main())
+main()

@@ -18,9 +18,11 @@ import sys
 import tempfile
 import xml.dom.minidom
 
-TOP = pathlib.Path(__file__).resolve().parents[2]
-sys.path.insert(0, str(TOP / "monitor/from_nagios"))
+sys.path.append(str(pathlib.Path(__file__).resolve().parents[1] / "program"))
+from harness import TOP, Harness
+sys.path.append(str(TOP / "monitor/from_nagios"))
 import nagios_parts
+
 OFFICE = TOP / "conformance/nagios"
 HOST = """define host {{
 \thost_name\t{name}
@@ -348,16 +350,15 @@ def check_pictures():
 
 
 def main():
-    program = str(pathlib.Path(sys.argv[1]).resolve())
+    harness = Harness("tools")
+    program = harness.program
     with tempfile.TemporaryDirectory() as folder:
         work = pathlib.Path(folder)
-        told = [*check_office(program), *check_large_network(program, work), *check_mirrors(program, work), *check_templates(work), *check_command_lines(work), *check_site(work), *check_pictures()]
-    wrong = [what for what, is_so in told if not is_so]
-    for what in wrong:
-        print(f"tools: {what}: otherwise than wanted")
-    print(f"tools: {len(told) - len(wrong)} passed, {len(wrong)} failed")
-    return 1 if wrong else 0
+        for rows in (check_office(program), check_large_network(program, work), check_mirrors(program, work), check_templates(work), check_command_lines(work),
+                     check_site(work), check_pictures()):
+            for what, is_so in rows:
+                harness.compare(what, True, is_so)
+    harness.end()
 
 
-if __name__ == "__main__":
-    sys.exit(main())
+main()

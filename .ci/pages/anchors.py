@@ -23,6 +23,11 @@ def name_of(page: pathlib.Path) -> str:
     return str(page.relative_to(TOP))
 
 
+def without_code(text: str) -> str:
+    """A page without its code blocks."""
+    return re.sub(r"^```.*?^```", "", text, flags=re.S | re.M)
+
+
 def anchored_blocks(kind: str) -> list[tuple[str, str, str]]:
     """The page, the name and the code block of each anchor of a kind; the block is empty if none follows at once."""
     found = []

@@ -10,7 +10,8 @@ import subprocess
 import sys
 import tempfile
 
-TOP = pathlib.Path(__file__).resolve().parents[2]
+from anchors import TOP, text_of, without_code
+
 sys.path.append(str(TOP / "monitor"))
 from tests.packages_opinion import opinion_lines  # noqa: E402
 from tests.packages_trial import all_lines  # noqa: E402
@@ -24,11 +25,11 @@ SYNOPSIS = re.compile(r"nagsched(?: [\w.]+)?|.* \[.*|.* DIRECTORY|.* SETUP .*|na
 
 # The commands that are run here, in a folder with these files: the file that each writes ("" for standard output), and how its output begins.
 FILES = {"setup.json": "setup", "my.setup.json": "setup", "input": "office.txt", "INPUT": "office.txt", "OUTPUT": "office.out"}
-OFFICE, PICTURE, SEQUENCE, LANES, OVERVIEW = ((TOP / file).read_text(encoding="utf-8") for file in (
+OFFICE, PICTURE, SEQUENCE, LANES, OVERVIEW = (text_of(TOP / file) for file in (
     "examples/office.out", "docs/office.svg", "docs/sequence.svg", "docs/lanes.svg", "docs/parts.svg"))
-SETUP = (TOP / "examples/office.txt").read_text(encoding="utf-8").split("\n", 1)[0]
+SETUP = text_of(TOP / "examples/office.txt").split("\n", 1)[0]
 LINE_OF_SETUP = json.dumps(json.loads(SETUP), sort_keys=True, separators=(",", ":"), ensure_ascii=False) + "\n"
-VERSION = (TOP / "VERSION").read_text(encoding="utf-8").strip()
+VERSION = text_of(TOP / "VERSION").strip()
 GOOD = f"setup ok\nhosts {len(json.loads(SETUP)['hosts'])}\n"
 RUN = {
     "crates/nagsched/out/nagsched < examples/office.txt": ("", OFFICE),
@@ -48,37 +49,37 @@ RUN = {
 }
 # The part of the gate that runs a command.
 IN_THE_GATE = {
-    "crates/nagsched/out/nagsched live": ".ci/pages/pages.py",
-    "nagsched run --resume": ".ci/program/resume.py",
-    "nagsched live --resume": ".ci/program/resume.py",
-    "nagsched live --resume --start NOW": ".ci/program/resume.py",
-    "nagsched live --start NOW": ".ci/program/live.py",
-    "nagsched check --resume": ".ci/program/resume.py",
-    "nagsched check --line": ".ci/program/session.py",
-    "conformance/check": "tools/test.sh",
-    "conformance/check PROGRAM": "tools/test.sh",
-    "cc -IPREFIX/include program.c PREFIX/lib/libnagsched.a -lpthread": ".ci/deliverables/c_library.py",
-    "cc program.c $(pkg-config --cflags --libs PREFIX/lib/pkgconfig/nagsched.pc) -lpthread": ".ci/deliverables/c_library.py",
-    "tools/build_c.sh": ".ci/deliverables/c_library.py",
-    "tools/install.sh": ".ci/deliverables/install.py",
-    "tools/map.py CRATE": ".ci/pages/pages.py",
-    "tools/map.py --crates": ".ci/pages/pages.py",
-    ".ci/pages/generated.py": ".ci/pages/pages.py",
+    "crates/nagsched/out/nagsched live": "pages",
+    "nagsched run --resume": "resume",
+    "nagsched live --resume": "resume",
+    "nagsched live --resume --start NOW": "resume",
+    "nagsched live --start NOW": "live",
+    "nagsched check --resume": "resume",
+    "nagsched check --line": "session",
+    "conformance/check": "conformance",
+    "conformance/check PROGRAM": "conformance",
+    "cc -IPREFIX/include program.c PREFIX/lib/libnagsched.a -lpthread": "c_library",
+    "cc program.c $(pkg-config --cflags --libs PREFIX/lib/pkgconfig/nagsched.pc) -lpthread": "c_library",
+    "tools/build_c.sh": "c_library",
+    "tools/install.sh": "install",
+    "tools/map.py CRATE": "pages",
+    "tools/map.py --crates": "pages",
+    ".ci/pages/generated.py": "pages",
 }
 # Scripts that a part of the gate runs with many arguments. The options that a page names have to be in their help.
 SCRIPTS = {
-    "monitor/nagsched-monitor": ".ci/deliverables/monitor.py",
-    "monitor/nagsched-gearman-worker": ".ci/deliverables/monitor.py",
-    "monitor/build_runner.sh": ".ci/deliverables/monitor.py",
-    "monitor/from_nagios/from_nagios.py": ".ci/deliverables/tools.py",
-    "tools/timeline.py": ".ci/deliverables/tools.py",
-    "tools/second_opinion.py": ".ci/deliverables/second_opinion.py",
-    "examples/monitor.py": ".ci/deliverables/monitor.py",
-    "monitor/examples/mail_change.py": ".ci/deliverables/monitor.py",
-    "monitor/examples/spool_to_graphite.py": ".ci/deliverables/monitor.py",
-    "python/examples/embed.py": ".ci/deliverables/c_library.py",
-    "python/examples/first.py": ".ci/deliverables/c_library.py",
-    "python/examples/loop.py": ".ci/deliverables/c_library.py",
+    "monitor/nagsched-monitor": "monitor",
+    "monitor/nagsched-gearman-worker": "monitor",
+    "monitor/build_runner.sh": "monitor",
+    "monitor/from_nagios/from_nagios.py": "tools",
+    "tools/timeline.py": "tools",
+    "tools/second_opinion.py": "second_opinion",
+    "examples/monitor.py": "monitor",
+    "monitor/examples/mail_change.py": "monitor",
+    "monitor/examples/spool_to_graphite.py": "monitor",
+    "python/examples/embed.py": "c_library",
+    "python/examples/first.py": "c_library",
+    "python/examples/loop.py": "c_library",
 }
 # The names of scripts when they are installed.
 INSTALLED = {"nagsched-monitor": "monitor/nagsched-monitor", "nagsched-from-nagios": "monitor/from_nagios/from_nagios.py", "nagsched-second-opinion": "tools/second_opinion.py"}
@@ -92,7 +93,7 @@ MANUAL = {
     "tools/test.sh": "is the gate",
     "tools/test.sh --quick": "is a part of the gate",
     "tools/package.sh": "needs dpkg-deb and the C library",
-    ".ci/program/refusals.sh": "takes ten minutes",
+    ".ci/program/refusals.py PROGRAM --long": "takes ten minutes",
     "c/tests/memcheck.sh": "needs valgrind",
     "sudo -u nagios nagsched-monitor /var/tmp/office reload": "the trial reloads the service",
     "sudo install -d -m 2750 -o nagsched -g www-data /var/lib/nagsched/office/nagios": "needs the service's user",
@@ -109,10 +110,10 @@ def is_manual(command):
 
 
 def is_in_the_gate(command):
-    """Whether the gate runs it: a script of the gate, or a command that such a script runs."""
-    part_of = IN_THE_GATE.get(command, SCRIPTS.get(command.split()[0], command))
-    part = re.fullmatch(r"\.ci/\w+/(\w+)\.py", part_of)
-    return part_of == "tools/test.sh" or part is not None and re.search(rf"\b{part[1]}\b", (TOP / "tools/test.sh").read_text(encoding="utf-8")) is not None
+    """Whether the gate runs it: the script of a part, or a command that such a script runs."""
+    script = re.fullmatch(r"\.ci/\w+/(\w+)\.py", command)
+    part = IN_THE_GATE.get(command, SCRIPTS.get(command.split()[0], script and script[1]))
+    return part is not None and re.search(rf"\b{part}\b", text_of(TOP / "tools/test.sh")) is not None
 
 
 def unknown_options(command):
@@ -128,10 +129,9 @@ def unknown_options(command):
 
 def commands_of(page):
     """The commands that a page names."""
-    text = page.read_text(encoding="utf-8")
+    text = text_of(page)
     blocks = "\n".join(re.findall(r"^```\n(.*?)^```", text, re.M | re.S) + re.findall(r"^ {4}\S.*$", text, re.M))
-    prose = re.sub(r"^```.*?^```", "", text, flags=re.M | re.S)
-    return [command for command in LINE.findall(blocks) + SPAN.findall(prose) if not SYNOPSIS.fullmatch(command)]
+    return [command for command in LINE.findall(blocks) + SPAN.findall(without_code(text)) if not SYNOPSIS.fullmatch(command)]
 
 
 def write_files(folder, program):
@@ -143,7 +143,7 @@ def write_files(folder, program):
     for link in (folder / "nagsched", folder / "crates/nagsched/out/nagsched"):
         link.symlink_to(program)
     for name, content in FILES.items():
-        text = SETUP if content == "setup" else (TOP / "examples" / content).read_text(encoding="utf-8")
+        text = SETUP if content == "setup" else text_of(TOP / "examples" / content)
         (folder / name).write_text(text, encoding="utf-8")
 
 
@@ -159,5 +159,5 @@ def check(program, pages, compare):
         write_files(folder, pathlib.Path(program).resolve())
         for command, (file, begins) in RUN.items():
             ran = subprocess.run(["bash", "-c", f"PATH=.:$PATH; {command}"], cwd=folder, stdin=subprocess.DEVNULL, stdout=subprocess.PIPE)
-            written = (folder / file).read_text(encoding="utf-8") if file else ran.stdout.decode()
+            written = text_of(folder / file) if file else ran.stdout.decode()
             compare(command, begins, written[: len(begins)])

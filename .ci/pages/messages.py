@@ -4,11 +4,11 @@ It reads the texts in the code: of the program (crates), the monitor, the conver
 string with two or more words; what a program writes for other programs has names without spaces.
 """
 import ast
-import pathlib
 import re
 from typing import Iterator, Mapping, Tuple
 
-TOP = pathlib.Path(__file__).resolve().parents[2]
+from anchors import TOP, name_of, text_of
+
 # Files by the way in which their texts are found. Tests aren't read.
 PYTHON = ("monitor/**/*.py", "monitor/nagsched-*", "tools/*.py", "python/**/*.py", "examples/*.py")
 OTHERS = ("monitor/runner/*.[ch]", "c/**/*.[ch]", "crates/*/src/**/*.rt", "tools/*.sh", "monitor/*.sh", "tools/completion/*")
@@ -64,7 +64,6 @@ def faults_of(text: str, words: Mapping[str, str]) -> Iterator[str]:
 def faults(words: Mapping[str, str]) -> Iterator[str]:
     """The faults of all texts, each with its file and line."""
     for file in sorted({file for pattern in (*PYTHON, *OTHERS) for file in TOP.glob(pattern) if file.is_file()}):
-        name = str(file.relative_to(TOP))
+        name = name_of(file)
         if not NOT_READ.search(name):
-            code = file.read_text(encoding="utf-8")
-            yield from (f"{name}:{line}: {fault}" for line, text in texts_of(name, code) for fault in faults_of(text, words))
+            yield from (f"{name}:{line}: {fault}" for line, text in texts_of(name, text_of(file)) for fault in faults_of(text, words))

@@ -6,14 +6,12 @@
 Every text that looks like a function, a clause, a definition, a test, a must-fail edit, an option or a file is a name. A file has to exist, at the top
 or in a folder of a crate. For any other name, each word has to be in some source, script, case or file name.
 """
-import pathlib
 import re
 import subprocess
 import sys
 
-from anchors import PAGES
+from anchors import PAGES, TOP, name_of, text_of, without_code
 
-TOP = pathlib.Path(__file__).resolve().parents[2]
 ENDINGS = (".rt", ".antt", ".md", ".py", ".sh", ".json", ".txt", ".out", ".edit", ".tsv", ".svg", ".c")
 WORD = re.compile(r"[A-Za-z_][A-Za-z0-9_]*")
 NAME = re.compile(r"[A-Za-z_][A-Za-z0-9_]*(::[A-Za-z_][A-Za-z0-9_]*)*(<[A-Z]>)?(\(\))?")
@@ -44,8 +42,7 @@ def words_of(all_files):
 
 def quoted_names(page):
     """The texts between backticks on a page, without its code blocks."""
-    text = re.sub(r"^```.*?^```", "", page.read_text(encoding="utf-8"), flags=re.MULTILINE | re.DOTALL)
-    return re.findall(r"`([^`\n]+)`", text)
+    return re.findall(r"`([^`\n]+)`", without_code(text_of(page)))
 
 
 def is_missing(name, all_files, words):
@@ -63,7 +60,7 @@ def main():
     all_files = files()
     words = words_of(all_files)
     names = [(page, name) for page in PAGES for name in quoted_names(page)]
-    wrong = sorted({f"{page.relative_to(TOP)}: {name}" for page, name in names if is_missing(name, all_files, words)})
+    wrong = sorted({f"{name_of(page)}: {name}" for page, name in names if is_missing(name, all_files, words)})
     for line in wrong:
         print(f"names: {line} isn't there")
     print(f"names: {len(names)} looked up\nnames: {0 if wrong else 1} passed, {len(wrong)} failed")

@@ -22,30 +22,20 @@ import messages
 import promises
 import style
 
-TOP = pathlib.Path(__file__).resolve().parents[2]
-sys.path.append(str(TOP / ".ci"))
+sys.path.append(str(pathlib.Path(__file__).resolve().parents[1] / "program"))
+from harness import TOP, Harness
 import needs
 
-PROGRAM = sys.argv[1] if len(sys.argv) > 1 else str(TOP / "crates/nagsched/out/nagsched")
+HARNESS = Harness("pages")
+compare = HARNESS.compare
 HOST = '{"hosts":[{"name":"h","max_check_attempts":3}]}'
 # The two commands that a newcomer looks for: one runs the main job, the other the tests.
 FIRST_COMMANDS = ("tools/try.sh", "tools/test.sh")
-checked = 0
-wrong = []
 
 
 def program_output(lines, *words):
     """The program's output for these lines."""
-    text = "".join(line + "\n" for line in lines)
-    return subprocess.run([PROGRAM, *words], input=text.encode(), stdout=subprocess.PIPE).stdout.decode()
-
-
-def compare(what, wanted, written):
-    """Counts a comparison, and stores the difference if there is one."""
-    global checked
-    checked += 1
-    if wanted != written:
-        wrong.append(f"{what}:\n  wanted  {wanted!r}\n  written {written!r}")
+    return HARNESS.run(words, "".join(line + "\n" for line in lines).encode())[0].decode()
 
 
 def on_one_line(block):
@@ -194,15 +184,11 @@ def main():
     compare("cited clauses that no contract has", [], list(promises.missing()))
     beginning = anchors.text_of(TOP / "README.md").splitlines()[:40]
     compare("the commands in README's first 40 lines", [], [command for command in FIRST_COMMANDS if command not in beginning])
-    commands.check(PROGRAM, anchors.PAGES, compare)
+    commands.check(HARNESS.program, anchors.PAGES, compare)
     for argument in ("--crates", "check_queue"):
         listed = subprocess.run([sys.executable, TOP / "tools/map.py", argument], stdout=subprocess.PIPE, text=True)
         compare(f"tools/map.py {argument}", (0, True), (listed.returncode, "check_queue" in listed.stdout))
-    for difference in wrong:
-        print(difference)
-    print(f"pages: {checked - len(wrong)} passed, {len(wrong)} failed")
-    return 1 if wrong else 0
+    HARNESS.end()
 
 
-if __name__ == "__main__":
-    sys.exit(main())
+main()

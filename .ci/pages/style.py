@@ -32,8 +32,7 @@ OPENINGS = r"^(?:That|What|Of|Where) \w"
 
 def prose_of(page: str) -> str:
     """A page without code, generated text and comments; text between backticks is one word, and links are their words."""
-    text = anchors.COMMENT.sub("", anchors.GENERATED.sub("", page))
-    text = re.sub(r"^```.*?^```", "", text, flags=re.S | re.M)
+    text = anchors.without_code(anchors.COMMENT.sub("", anchors.GENERATED.sub("", page)))
     text = re.sub(r"`[^`\n]+`", "code", text)
     return re.sub(r"!?\[([^]]*)\]\([^)]*\)", r"\1", text)
 
@@ -75,7 +74,7 @@ def opening_faults(prose: str) -> Iterator[str]:
 
 def table_faults(page: str) -> Iterator[str]:
     """A table needs a sentence before it, and a name for each column."""
-    lines = [line for line in re.sub(r"^```.*?^```", "", page, flags=re.S | re.M).splitlines() if line.strip() and not line.startswith("<!--")]
+    lines = [line for line in anchors.without_code(page).splitlines() if line.strip() and not line.startswith("<!--")]
     for before, head, rule in zip(lines, lines[1:], lines[2:]):
         if re.fullmatch(r"\|[-|: ]+\|", rule.strip()) and head.startswith("|"):
             if before.startswith(("#", "|")):
@@ -91,7 +90,7 @@ def faults(page: str) -> Iterator[str]:
         yield f"{len(page.encode()):,} bytes; at most {PAGE_BYTES:,}"
     yield from opening_faults(prose)
     yield from table_faults(page)
-    for block in re.findall(r"^```[^\n]*\n(.*?)^```", page, re.S | re.M):
+    for block in re.findall(rf"^{anchors.BLOCK}", page, re.S | re.M):
         if block.count("\n") > CODE_LINES:
             yield f"a code block of {block.count(chr(10))} lines; at most {CODE_LINES}"
     for sentence in whole_sentences(prose):
@@ -106,14 +105,14 @@ def faults(page: str) -> Iterator[str]:
 
 def slugs(page: str) -> set[str]:
     """The fragments with which a link reaches the headings of a page."""
-    headings = re.findall(r"^#+ (.*)$", re.sub(r"^```.*?^```", "", page, flags=re.S | re.M), re.M)
+    headings = re.findall(r"^#+ (.*)$", anchors.without_code(page), re.M)
     return {re.sub(r"[^\w -]", "", re.sub(r"[`*]", "", heading).lower()).replace(" ", "-") for heading in headings}
 
 
 def dead_links() -> Iterator[str]:
     """Links of a page to a file or a heading that doesn't exist."""
     for page in anchors.PAGES:
-        text = re.sub(r"^```.*?^```", "", anchors.text_of(page), flags=re.S | re.M)
+        text = anchors.without_code(anchors.text_of(page))
         for target, _, fragment in (link.partition("#") for link in re.findall(r"\]\(([^)\s]+)\)", text)):
             file = (page.parent / target).resolve() if target else page
             if not target.startswith("http") and (not file.exists() or fragment and fragment not in slugs(anchors.text_of(file))):

@@ -12,14 +12,12 @@ from __future__ import annotations
 
 import errno
 import os
-import pathlib
 import subprocess
-import sys
 import tempfile
 from concurrent.futures import ThreadPoolExecutor
 from typing import Iterator, NamedTuple
 
-from harness import TOP
+from harness import TOP, Harness
 import needs
 from cases import cases
 
@@ -247,21 +245,15 @@ def trials() -> Iterator[Trial]:
     yield from write_failures(long_run())
 
 
-def main() -> int:
+def main() -> None:
     """Makes all runs, and counts the outcomes."""
     needs.require("devices", "cc")
-    program = pathlib.Path(sys.argv[1]).resolve()
+    harness = Harness("devices")
     with tempfile.TemporaryDirectory() as folder, ThreadPoolExecutor(os.cpu_count()) as threads:
-        shim = Shim(str(program), folder)
-
-        def fault_of(trial: Trial) -> str:
-            return trial.fault(shim.run(trial.job, trial.device))
-
-        faults = list(threads.map(fault_of, trials()))
-    wrong = [fault for fault in faults if fault]
-    print("\n".join([*wrong[:20], f"devices: {len(faults) - len(wrong)} passed, {len(wrong)} failed"]))
-    return 1 if wrong or not faults else 0
+        shim = Shim(harness.program, folder)
+        for fault in threads.map(lambda trial: trial.fault(shim.run(trial.job, trial.device)), trials()):
+            harness.compare("a run", "", fault)
+    harness.end()
 
 
-if __name__ == "__main__":
-    sys.exit(main())
+main()

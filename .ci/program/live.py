@@ -15,12 +15,11 @@ import resource
 import select
 import struct
 import subprocess
-import sys
 import termios
 import threading
 import time
 
-import harness  # noqa: F401
+from harness import Harness
 from cases import runs
 
 SECONDS = 20
@@ -33,11 +32,10 @@ MEGABYTE = 1 << 20
 ADDRESSES = 64 * MEGABYTE
 
 
-def run_differences(program):
-    """The cases in which `live` writes something else than `run`."""
+def compare_cases(harness):
+    """`live` writes what `run` writes, on each case."""
     for case in runs():
-        ran = subprocess.run([program, "live", *case.arguments[1:]], input=case.given, capture_output=True, timeout=SECONDS)
-        yield None if (ran.returncode, ran.stdout) == (0, case.wanted) else f"{case.name}: live writes {ran.stdout[:200]!r}"
+        harness.compare(case.name, (case.wanted, 0), harness.run(["live", *case.arguments[1:]], case.given))
 
 
 def start_live(program, *words, **how):
@@ -231,15 +229,13 @@ def full_device(program):
 
 
 def main():
-    program = str(pathlib.Path(sys.argv[1]).resolve())
-    faults = [*run_differences(program), all_at_once(program, 70_000), all_at_once(program, 200_000)]
-    faults += [part(program) for part in (line_by_line, byte_by_byte, long_setup, refused_state, long_line, million_lines, closed_reader, full_device)]
-    wrong = [fault for fault in faults if fault is not None]
-    for fault in wrong:
-        print(f"live: {fault}")
-    print(f"live: {len(faults) - len(wrong)} passed, {len(wrong)} failed")
-    return 1 if wrong else 0
+    harness = Harness("live")
+    compare_cases(harness)
+    for count in (70_000, 200_000):
+        harness.compare("all lines at once", None, all_at_once(harness.program, count))
+    for part in (line_by_line, byte_by_byte, long_setup, refused_state, long_line, million_lines, closed_reader, full_device):
+        harness.compare(part.__doc__, None, part(harness.program))
+    harness.end()
 
 
-if __name__ == "__main__":
-    sys.exit(main())
+main()

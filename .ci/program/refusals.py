@@ -1,11 +1,13 @@
 #!/usr/bin/env python3
 """Refuses the built program each request for memory in turn.
 
-    .ci/program/refusals.py [PROGRAM]     crates/nagsched/out/nagsched if no program is named; needs a C compiler, cc
+    .ci/program/refusals.py [PROGRAM]          crates/nagsched/out/nagsched if no program is named; needs a C compiler, cc
+    .ci/program/refusals.py PROGRAM --long     not in the gate, since it takes ten minutes: a run over 4,096 hosts, and the tests of the lock
 
 A run is made with its first request refused, then with its second and so on, until a run makes fewer requests. Each run has to end in one of three
 ways: in the answer of ample memory; in status 4 with whole lines from the beginning of that answer; for a drill, in a total that counts the refusal.
-The lines of several workers come in any order, so only their total is compared.
+The lines of several workers come in any order, so only their total is compared. In the tests of the lock, the call whose request was refused returns
+its arguments, and succeeds when it is made again.
 """
 import json
 import os
@@ -13,6 +15,7 @@ import pathlib
 import re
 import struct
 import subprocess
+import sys
 import tempfile
 from concurrent.futures import ThreadPoolExecutor
 
@@ -23,6 +26,8 @@ HERE = pathlib.Path(__file__).resolve().parent
 ROWS = TOP / "conformance" / "rows"
 DRILL = ["drill", "--workers", "1"]
 OUT_OF_MEMORY = 4
+# So many first requests are refused in turn, and every 61st after them.
+EACH, STEP = 2_000, 61
 COUNTER = struct.Struct("l")
 TOTAL = re.compile(rb"(?:.*\n)*total \d+ (\d+)\n")
 
@@ -82,6 +87,13 @@ def all_runs(harness):
             yield " ".join([f"drill, {name}", *room]), [*DRILL, *room], given, ample
 
 
+def long_runs():
+    """A run that makes many requests."""
+    hosts = [{"name": f"host{number:04}", "max_check_attempts": 3} for number in range(4_096)]
+    setup = {"options": {"host_inter_check_delay_method": "n"}, "hosts": hosts}
+    yield "run, 4,096 hosts", ["run"], input_lines(json.dumps(setup), '["take",0]'), b"taken 1 host0000\n"
+
+
 class Refuser:
     """Runs the program with one of its requests for memory refused."""
 
@@ -119,7 +131,7 @@ def sweep(harness, refuser, several, name, arguments, given, ample):
     harness.compare(f"{name}: with ample memory", "ample", kind_of(written, status, ample))
     harness.compare(f"{name}: some requests", True, requests > 50)
     # With several workers one run may make some requests more than another.
-    numbers = range(1, requests + 10)
+    numbers = [*range(1, min(EACH, requests + 10)), *range(EACH, requests + 10, STEP)]
     kinds = list(several(lambda number: kind_of(*refuser.run(arguments, given, number)[:2], ample), numbers))
     harness.compare(f"{name}: refused", [], [number for number, kind in zip(numbers, kinds) if kind is None])
     print(f"{name}: {requests} requests," + ",".join(f" {kinds.count(kind)} {kind}" for kind in ("ample", "memory", "counted")))
@@ -127,11 +139,14 @@ def sweep(harness, refuser, several, name, arguments, given, ample):
 
 def main():
     needs.require("refusals", "cc")
-    harness = Harness("refusals")
+    harness, is_long = Harness("refusals"), sys.argv[2:] == ["--long"]
     with tempfile.TemporaryDirectory() as folder, ThreadPoolExecutor(os.cpu_count()) as threads:
         refuser = Refuser(harness, folder)
-        for run in all_runs(harness):
+        for run in long_runs() if is_long else all_runs(harness):
             sweep(harness, refuser, threads.map, *run)
+    if is_long:
+        ran = subprocess.run(["rt", "try", "--test", "--fail-alloc", "1.."], cwd=TOP / "crates/lock_tests", check=False)
+        harness.compare("the tests of the lock", 0, ran.returncode)
     harness.end()
 
 

@@ -10,13 +10,11 @@ the whole, except for the line `saved`. `live` answers each of the two as `run` 
 from __future__ import annotations
 
 import os
-import pathlib
 import subprocess
-import sys
 from concurrent.futures import ThreadPoolExecutor
 from typing import Iterator, NamedTuple, Optional
 
-from harness import TOP
+from harness import EXAMPLES, Harness
 from cases import runs
 
 PLACES = 40
@@ -37,7 +35,7 @@ def cases() -> Iterator[Case]:
     """The cases that `run` accepts, except for its help, and the office."""
     for case in runs():
         yield Case(case.name, case.arguments[1:], case.given.split(b"\n"), case.wanted)
-    office = TOP / "examples" / "office.txt"
+    office = EXAMPLES / "office.txt"
     yield Case("office", [], office.read_bytes().split(b"\n"), office.with_suffix(".out").read_bytes())
 
 
@@ -76,18 +74,14 @@ def faults(program: str, case: Case) -> Iterator[Optional[str]]:
         yield fault_at(program, case, places[len(places) // 2], "live")
 
 
-def main() -> int:
+def main() -> None:
     """Cuts each case, and counts the results."""
-    if len(sys.argv) != 2 or not pathlib.Path(sys.argv[1]).is_file():
-        print(f"resume: no program {' '.join(sys.argv[1:])}\nresume: 0 passed, 1 failed")
-        return 1
-    program = str(pathlib.Path(sys.argv[1]).resolve())
+    harness = Harness("resume")
     with ThreadPoolExecutor(os.cpu_count()) as threads:
-        found = [told for each in threads.map(lambda case: list(faults(program, case)), cases()) for told in each]
-    wrong = [told for told in found if told is not None]
-    print("\n".join([*wrong, f"resume: {len(found) - len(wrong)} passed, {len(wrong)} failed"]))
-    return 1 if wrong or not found else 0
+        for found in threads.map(lambda case: list(faults(harness.program, case)), cases()):
+            for fault in found:
+                harness.compare("a cut", None, fault)
+    harness.end()
 
 
-if __name__ == "__main__":
-    sys.exit(main())
+main()

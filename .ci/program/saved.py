@@ -12,12 +12,12 @@ from __future__ import annotations
 import copy
 import json
 import os
-import pathlib
 import re
 import subprocess
-import sys
 from concurrent.futures import ThreadPoolExecutor
 from typing import Any, Callable, Iterator, NamedTuple
+
+from harness import Harness
 
 MOST_BYTES = 16_777_216
 MOST_OBJECTS = 4_096
@@ -244,15 +244,14 @@ def damage_results(program: str, text: str) -> Iterator[tuple[str, bool]]:
             yield f"a damaged state: {state[:80]}..: {answer}", is_lawful(answer)
 
 
-def main() -> int:
+def main() -> None:
     """Makes all comparisons, and counts the results."""
-    program = str(pathlib.Path(sys.argv[1]).resolve())
-    text = saved_state(program, SETUP, BEFORE)
-    found = [*refusal_results(program, text), *size_results(program, text), *damage_results(program, text)]
-    wrong = [what for what, is_right in found if not is_right]
-    print("\n".join([*wrong[:20], f"saved: {len(found) - len(wrong)} passed, {len(wrong)} failed"]))
-    return 1 if wrong or not found else 0
+    harness = Harness("saved")
+    text = saved_state(harness.program, SETUP, BEFORE)
+    for results in (refusal_results, size_results, damage_results):
+        for what, is_right in results(harness.program, text):
+            harness.compare(what, True, is_right)
+    harness.end()
 
 
-if __name__ == "__main__":
-    sys.exit(main())
+main()
