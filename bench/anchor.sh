@@ -8,20 +8,11 @@
 # script contains its instruction counts, which are the same on every machine. Its times, of another machine, are left out.
 set -eu
 repeats=${1:-5}
-# Valgrind counts a string store byte by byte, so the C library is set to store by words.
-export GLIBC_TUNABLES=glibc.cpu.x86_rep_stosb_threshold=100000000:glibc.cpu.x86_rep_movsb_threshold=100000000
-top=$(cd "$(dirname "$0")/.." && pwd)
-work=$(mktemp -d)
-trap 'rm -rf "$work"' EXIT
-. "$top/bench/best.sh"
+. "$(dirname "$0")/common.sh"
+store_by_words
 
 workloads=$("$top/bench/build.sh")
 cc -std=c11 -O2 -Wall -Wextra "$top/bench/anchor.c" -o "$work/anchor"
-
-# The instructions of a cycle of a program's workload, after 21 results of each object.
-by_cycles() {
-    echo $((($(instructions "$@" 140000 untimed) - $(instructions "$@" 100000 untimed)) / 40000))
-}
 
 # The fewest nanoseconds of a cycle, of ours and of C's, run after run.
 least_times() {

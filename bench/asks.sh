@@ -13,10 +13,7 @@
 set -eu -o pipefail
 repeats=${1:-5}
 takes=100000
-top=$(cd "$(dirname "$0")/.." && pwd)
-work=$(mktemp -d)
-trap 'rm -rf "$work"' EXIT
-. "$top/bench/best.sh"
+. "$(dirname "$0")/common.sh"
 build_c_asks "${PREFIX:-$top/out/c}" "$work/c_asks"
 counts='1 2 4 16 64'
 rows='desk apart ticket mutex'

@@ -5,13 +5,8 @@
 # The first setup's hosts are each the parent of the next one. The second one has a host with services, each of
 # which depends on the next one. Each time is the best of five runs.
 set -eu
-crate=$(cd "$(dirname "$0")/../crates/nagsched" && pwd)
-program=$crate/out/nagsched
-work=$(mktemp -d)
-trap 'rm -rf "$work"' EXIT
-
-# Proves and builds the program if it isn't built yet.
-(cd "$crate" && rt run < stdin > "$work/build.log" 2>&1) || { cat "$work/build.log"; exit 1; }
+. "$(dirname "$0")/common.sh"
+program=$(build_program)
 
 # This number of hosts, each a parent of the one before it, and the first of the last.
 parents() {
@@ -28,16 +23,16 @@ services() {
     awk -v count="$1" 'BEGIN {
         printf "{\"hosts\":[{\"name\":\"h\",\"max_check_attempts\":1}],\"services\":["
         for (s = 1; s < count; s++)
-            printf "%s{\"host\":\"h\",\"description\":\"s%d\",\"max_check_attempts\":1}", s > 1 ? "," : "", s
+            printf "%s{\"host\":\"h\",\"description\":\"s%d\",\"max_check_attempts\":1}", (s > 1 ? "," : ""), s
         printf "],\"service_dependencies\":["
         for (s = 1; s < count; s++)
-            printf "%s{\"dependent\":\"h;s%d\",\"master\":\"h;s%d\",\"criteria\":\"c\"}", s > 1 ? "," : "", s, s + 1 < count ? s + 1 : 1
+            printf "%s{\"dependent\":\"h;s%d\",\"master\":\"h;s%d\",\"criteria\":\"c\"}", (s > 1 ? "," : ""), s, (s + 1 < count ? s + 1 : 1)
         print "]}"
     }'
 }
 
 # The milliseconds that the best of five checks of a setup takes. A refused setup ends in status 1.
-best() {
+best_check() {
     local least=1000000000 begun took
     for _ in 1 2 3 4 5; do
         begun=$(date +%s%N)
@@ -51,7 +46,7 @@ best() {
 for sort in parents services; do
     for count in 2048 4096; do
         "$sort" "$count" > "$work/setup"
-        printf '%s, %d objects: %s ms\n' "$sort" "$count" "$(best "$work/setup")"
+        printf '%s, %d objects: %s ms\n' "$sort" "$count" "$(best_check "$work/setup")"
         tail -1 "$work/output" | cut -c 1-100
     done
 done

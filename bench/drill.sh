@@ -14,32 +14,17 @@ set -eu
 repeats=${1:-3}
 hosts=4096
 takes=500000
-crate=$(cd "$(dirname "$0")/../crates/nagsched" && pwd)
-program=$crate/out/nagsched
-work=$(mktemp -d)
-trap 'rm -rf "$work"' EXIT
+. "$(dirname "$0")/common.sh"
+program=$(build_program)
 
 fail() {
     echo "$1"
     exit 1
 }
 
-# Proves and builds the program if it isn't built yet.
-(cd "$crate" && rt run < stdin > "$work/build.log" 2>&1) || { cat "$work/build.log"; exit 1; }
-
-# The setup: one line.
-setup() {
-    awk -v hosts="$hosts" 'BEGIN {
-        printf "{\"options\":{\"host_inter_check_delay_method\":\"n\"},\"hosts\":["
-        for (h = 0; h < hosts; h++)
-            printf "%s{\"name\":\"host%04d\",\"max_check_attempts\":3}", h ? "," : "", h
-        print "]}"
-    }'
-}
-
 # The setup, and a take and its report at each moment.
 script() {
-    setup
+    hosts_setup "$hosts"
     awk -v hosts="$hosts" -v takes="$takes" 'BEGIN {
         for (run = 0; run < takes; run++) {
             printf "[\"take\",%.0f]\n", run * 300000
@@ -47,17 +32,6 @@ script() {
         }
     }'
 }
-
-# The setup, and this number of moments.
-moments() {
-    setup
-    awk -v count="$1" 'BEGIN {
-        for (at = 0; at < count; at++)
-            printf "[\"moment\",%.0f]\n", at * 300000
-    }'
-}
-
-. "$(dirname "$0")/best.sh"
 
 # A line of the table: what ran, its asks and time, and the share of takes that found a host.
 tell() {
@@ -90,7 +64,7 @@ mv "$work/output" "$work/run_output"
 printf '%-16s %10s %8s %14s %8s %8s\n' '' asks ms 'asks a second' taken 'to run'
 tell run $((2 * takes)) "$run_ms" "$takes"
 for workers in 1 2 4; do
-    moments $((takes / workers)) > "$work/moments"
+    moments "$hosts" $((takes / workers)) > "$work/moments"
     ms=$(best "$work/moments" "$program" drill --workers "$workers" --room $((2 * takes)) --start 0)
     found=$(check) || fail "$found"
     # One worker makes exactly the calls of the script.
@@ -115,7 +89,7 @@ drills() {
     hosts=$1
     printf '\n%-24s %12s %12s %8s\n' "$hosts hosts$2" microseconds before ratio
     for workers in 1 2 4 16 64; do
-        moments $((takes / workers)) > "$work/moments"
+        moments "$hosts" $((takes / workers)) > "$work/moments"
         : > "$work/before"
         for _ in $(seq "$repeats"); do
             [[ -z ${BEFORE:-} ]] || one_drill "$BEFORE" "$workers" >> "$work/before"

@@ -6,14 +6,11 @@
 # and reports them. The ratio is to one thread, in the same run. If valgrind is installed, the instructions of a glance
 # are counted, while nobody reports: the difference of two counts, so that reading the setup cancels.
 set -eu -o pipefail
-export GLIBC_TUNABLES=glibc.cpu.x86_rep_stosb_threshold=100000000:glibc.cpu.x86_rep_movsb_threshold=100000000
 repeats=${1:-5}
 objects=64
 glances=20000000
-top=$(cd "$(dirname "$0")/.." && pwd)
-work=$(mktemp -d)
-trap 'rm -rf "$work"' EXIT
-. "$top/bench/best.sh"
+. "$(dirname "$0")/common.sh"
+store_by_words
 build_c_asks "${PREFIX:-$top/out/c}" "$work/c_asks"
 
 # The shortest time of the slowest thread, in nanoseconds, for this number of glancing threads.

@@ -15,26 +15,11 @@
 #   inherit  the same, but the dependency inherits, and the first service depends on the second
 #   lines    a check whose two replies are written as lines of text
 set -eu
-# Valgrind counts a string store byte by byte, so the C library is set to store by words.
-export GLIBC_TUNABLES=glibc.cpu.x86_rep_stosb_threshold=100000000:glibc.cpu.x86_rep_movsb_threshold=100000000
-top=$(cd "$(dirname "$0")/.." && pwd)
-crates=$top/crates
-work=$(mktemp -d)
-trap 'rm -rf "$work"' EXIT
-. "$top/bench/best.sh"
-
-# Proves and builds the programs if they aren't built yet.
-(cd "$crates/nagsched" && rt run < stdin > "$work/build.log" 2>&1) || { cat "$work/build.log"; exit 1; }
+. "$(dirname "$0")/common.sh"
+store_by_words
+program=$(build_program)
 workloads=$("$top/bench/build.sh")
 build_c_asks "${PREFIX:-$top/out/c}" "$work/c_asks"
-
-# The instructions of a cycle of a program's workload, after 21 results of each object.
-by_cycles() {
-    local few many
-    few=$(instructions "$@" 100000 untimed)
-    many=$(instructions "$@" 140000 untimed)
-    echo $(((many - few) / 40000))
-}
 
 # A cycle's instructions: of WORKLOAD at n numbers.
 by_workload() {
@@ -58,11 +43,8 @@ by_caller() {
 
 # A setup of this number of hosts, and this number of takes with their reports.
 input() {
+    hosts_setup "$1"
     awk -v hosts="$1" -v runs="$2" 'BEGIN {
-        setup = "{\"options\":{\"host_inter_check_delay_method\":\"n\"},\"hosts\":["
-        for (h = 0; h < hosts; h++)
-            setup = setup (h ? "," : "") sprintf("{\"name\":\"host%04d\",\"max_check_attempts\":3}", h)
-        print setup "]}"
         for (run = 0; run < runs; run++) {
             printf "[\"take\",%.0f]\n", int(run / hosts) * 300000
             printf "[\"report\",\"host%04d\",%d,0]\n", run % hosts, run + 1
@@ -75,8 +57,8 @@ by_run() {
     local few many
     input "$1" 20000 > "$work/few"
     input "$1" 60000 > "$work/many"
-    few=$(instructions "$crates/nagsched/out/nagsched" < "$work/few")
-    many=$(instructions "$crates/nagsched/out/nagsched" < "$work/many")
+    few=$(instructions "$program" < "$work/few")
+    many=$(instructions "$program" < "$work/many")
     echo $(((many - few) / 40000))
 }
 

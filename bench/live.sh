@@ -4,13 +4,9 @@
 # Lines per second compared with `run` on the same bytes. The time of a line and its answer compared with a C program that
 # echoes it. The resident memory after 1,000 lines and after 1,000,000. And a line of 70 MB without an end, in 64 MB.
 set -eu
-top=$(cd "$(dirname "$0")/.." && pwd)
-work=$(mktemp -d)
-trap 'rm -rf "$work"' EXIT
+. "$(dirname "$0")/common.sh"
 repeats=${1:-5}
-. "$top/bench/best.sh"
-(cd "$top/crates/nagsched" && rt run < stdin > "$work/build.log" 2>&1) || { cat "$work/build.log"; exit 1; }
-program=$top/crates/nagsched/out/nagsched
+program=$(build_program)
 cc -O2 -o "$work/converse" "$top/bench/converse.c"
 cc -O2 -D_GNU_SOURCE -o "$work/echo" "$top/bench/echo.c"
 

@@ -6,12 +6,10 @@
 # it is scheduled again. Nanoseconds each. Nagios asks the system for the time zone when it formats times, unless TZ is set, so it is set.
 set -eu
 export TZ=UTC
-top=$(cd "$(dirname "$0")/.." && pwd)
+. "$(dirname "$0")/common.sh"
 directory=$1
 repeats=${2:-5}
 cycles=200000
-work=$(mktemp -d)
-trap 'rm -rf "$work"' EXIT
 "$top/conformance/nagios/build.sh" "$directory"
 workloads=$("$top/bench/build.sh")
 

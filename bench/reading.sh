@@ -6,22 +6,11 @@
 # it has nearly 16 MiB. The program reads it, and Rust's serde_json reads the same bytes into a tree. Cargo builds that
 # from Debian's librust-serde-json-dev. If that package isn't installed, its line is left out.
 set -eu
-export GLIBC_TUNABLES=glibc.cpu.x86_rep_stosb_threshold=100000000:glibc.cpu.x86_rep_movsb_threshold=100000000
 profile=${1:-}
-crate=$(cd "$(dirname "$0")/../crates/nagsched" && pwd)
-program=$crate/out/nagsched
 registry=/usr/share/cargo/registry
-work=$(mktemp -d)
-trap 'rm -rf "$work"' EXIT
-
-# Proves and builds the program if it isn't built yet.
-(cd "$crate" && rt run < stdin > "$work/build.log" 2>&1) || { cat "$work/build.log"; exit 1; }
-
-# The instructions of a program, for its arguments and standard input. A refused input ends in status 1.
-instructions() {
-    valgrind --tool=callgrind --callgrind-out-file="${profile:-/dev/null}" "$@" 2>&1 > "$work/output" \
-        | sed -n 's/.*Collected : //p'
-}
+. "$(dirname "$0")/common.sh"
+store_by_words
+program=$(build_program)
 
 # One line of this number of bytes.
 line() {

@@ -5,21 +5,13 @@
 # its result reported. The ratio is to the time in which `jq -c .` reads the same bytes, in the same run.
 set -eu
 repeats=${1:-3}
-crate=$(cd "$(dirname "$0")/../crates/nagsched" && pwd)
-work=$(mktemp -d)
-trap 'rm -rf "$work"' EXIT
-
-# Proves and builds the program if it isn't built yet.
-(cd "$crate" && rt run < stdin > "$work/build.log" 2>&1) || { cat "$work/build.log"; exit 1; }
+. "$(dirname "$0")/common.sh"
+program=$(build_program)
 
 # A setup of this number of hosts, each checked every 5 minutes, and takes and reports that fill 60 MB.
 input() {
-    awk -v hosts="$1" -v bytes=60000000 'BEGIN {
-        setup = "{\"options\":{\"host_inter_check_delay_method\":\"n\"},\"hosts\":["
-        for (h = 0; h < hosts; h++)
-            setup = setup (h ? "," : "") sprintf("{\"name\":\"host%04d\",\"max_check_attempts\":3}", h)
-        print setup "]}"
-        written = length(setup) + 3
+    hosts_setup "$1"
+    awk -v hosts="$1" -v bytes=60000000 -v written="$(hosts_setup "$1" | wc -c)" 'BEGIN {
         for (run = 0; ; run++) {
             take = sprintf("[\"take\",%.0f]", int(run / hosts) * 300000)
             report = sprintf("[\"report\",\"host%04d\",%d,0]", run % hosts, run + 1)
@@ -32,14 +24,12 @@ input() {
     }'
 }
 
-. "$(dirname "$0")/best.sh"
-
 printf '%8s %10s %8s %14s %8s %12s\n' hosts calls ms 'calls a second' 'jq ms' 'ratio to jq'
 for hosts in 64 512 4096; do
     input "$hosts" > "$work/input"
     calls=$(($(wc -l < "$work/input") - 1))
     jq_ms=$(best "$work/input" jq -c .)
-    ms=$(best "$work/input" "$crate/out/nagsched")
+    ms=$(best "$work/input" "$program")
     lines=$(wc -l < "$work/output")
     refused=$(grep -c '^refused' "$work/output" || true)
     [[ $lines == "$calls" && $refused == 0 ]] || { echo "wrote $lines lines for $calls calls, $refused refused"; exit 1; }

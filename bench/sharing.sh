@@ -7,11 +7,8 @@
 # an entry by the C library.
 set -eu -o pipefail
 repeats=${1:-5}
-top=$(cd "$(dirname "$0")/.." && pwd)
+. "$(dirname "$0")/common.sh"
 export PREFIX=${PREFIX:-$top/out/c}
-work=$(mktemp -d)
-trap 'rm -rf "$work"' EXIT
-. "$top/bench/best.sh"
 build_c_asks "$PREFIX" "$work/c_asks"
 alone=("$("$top/bench/build.sh")" cycle 4096)
 
@@ -54,6 +51,6 @@ row 'of 4 threads' "$(ratio 3 '')" 1.4
 row 'of 2 threads on two cores' "$(ratio 2 2)" 1.5
 row 'of 4 threads on two cores' "$(ratio 3 2)" 1.4
 row 'a take and its report alone, 4,096 objects: instructions' \
-    $((($(instructions "${alone[@]}" 140000 untimed) - $(instructions "${alone[@]}" 100000 untimed)) / 40000)) 900
+    "$(by_cycles "${alone[@]}")" 900
 row 'nanoseconds' "$(nanoseconds)" 150
 row 'an entry of the history, bytes' "$("$work/c_asks" entry 1 16 1000000)" 64

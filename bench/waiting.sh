@@ -14,15 +14,13 @@ set -eu -o pipefail
 program=$1
 repeats=${2:-5}
 takes=100000
-top=$(cd "$(dirname "$0")/.." && pwd)
-work=$(mktemp -d)
+. "$(dirname "$0")/common.sh"
 busy=()
 end() {
     [[ ${#busy[@]} == 0 ]] || kill "${busy[@]}"
     rm -rf "$work"
 }
 trap end EXIT
-. "$top/bench/best.sh"
 counts='1 2 4 8 16'
 rows=drill
 [[ -z ${BEFORE:-} ]] || rows="$rows before"
@@ -30,16 +28,6 @@ if [[ -n ${PREFIX:-} ]]; then
     build_c_asks "$PREFIX" "$work/c_asks"
     rows="$rows desk mutex"
 fi
-
-# A setup of 16 hosts, and this number of moments.
-moments() {
-    awk -v count="$1" 'BEGIN {
-        printf "{\"options\":{\"host_inter_check_delay_method\":\"n\"},\"hosts\":["
-        for (h = 0; h < 16; h++) printf "%s{\"name\":\"host%02d\",\"max_check_attempts\":3}", h ? "," : "", h
-        print "]}"
-        for (at = 0; at < count; at++) printf "[\"moment\",%.0f]\n", at * 300000
-    }'
-}
 
 # Runs a row by this number of threads.
 run() {
@@ -79,7 +67,7 @@ table() {
 }
 
 for threads in $counts; do
-    moments $((takes / threads)) > "$work/moments.$threads"
+    moments 16 $((takes / threads)) > "$work/moments.$threads"
 done
 printf '%-32s' threads
 printf ' %8s' $counts
