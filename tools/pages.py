@@ -21,7 +21,7 @@ NAMES = (
     (r"\]\((?:docs|\.\.)/", "]("),
 )
 NOTE = """> These pages are installed with the programs `nagsched`, `nagsched-monitor` and `nagsched-from-nagios`. The folder `examples` is next to them. Files under
-> `crates/`, `tools/`, `monitor/`, `bench/` and `.ci/`, and pages without a link, are in the repository.
+> `crates/`, `c/`, `python/`, `monitor/`, `tools/`, `bench/` and `.ci/`, and pages without a link, are in the repository.
 
 """
 # Texts about the repository, between these comments, and their replacements in an installation.
