@@ -16,7 +16,8 @@ NAMES = (
     (r"crates/nagsched/out/nagsched\b", "nagsched"),
     (r"(?<![\w/])monitor/nagsched-(monitor|gearman-worker)\b(?!@)", r"nagsched-\1"),
     (r"(?<![\w/])tools/second_opinion\.py", "nagsched-second-opinion"),
-    (r"\b(?:c|python|monitor)/examples/", "examples/"),
+    # A command that is run from a checkout keeps the path of the repository.
+    (r"(?<!python3 )\b(?:c|python|monitor)/examples/", "examples/"),
     (r"\[docs/(\w+\.md)\]", r"[\1]"),
     (r"\]\((?:docs|\.\.)/", "]("),
 )

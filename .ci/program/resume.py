@@ -10,7 +10,6 @@ the whole, except for the line `saved`. `live` answers each of the two as `run` 
 from __future__ import annotations
 
 import os
-import subprocess
 from concurrent.futures import ThreadPoolExecutor
 from typing import Iterator, NamedTuple, Optional
 
@@ -18,7 +17,6 @@ from harness import EXAMPLES, Harness
 from cases import runs
 
 PLACES = 40
-SECONDS = 30
 BLANK = b" \t\r"
 
 
@@ -46,39 +44,39 @@ def cuts(case: Case) -> list[int]:
     return calls[::step]
 
 
-def program_output(program: str, arguments: list[str], lines: list[bytes]) -> Optional[bytes]:
+def program_output(harness: Harness, arguments: list[str], lines: list[bytes]) -> Optional[bytes]:
     """The program's output, if it ends in 0."""
-    ran = subprocess.run([program, *arguments], input=b"\n".join(lines), capture_output=True, timeout=SECONDS)
-    return ran.stdout if ran.returncode == 0 else None
+    written, status = harness.run(arguments, b"\n".join(lines))
+    return written if status == 0 else None
 
 
-def fault_at(program: str, case: Case, cut: int, subcommand: str) -> Optional[str]:
+def fault_at(harness: Harness, case: Case, cut: int, subcommand: str) -> Optional[str]:
     """How a case that is cut there differs from the whole, or nothing."""
-    before = program_output(program, [subcommand, *case.arguments], [*case.lines[:cut], b'["save"]'])
+    before = program_output(harness, [subcommand, *case.arguments], [*case.lines[:cut], b'["save"]'])
     answers = before.splitlines(keepends=True) if before else [b""]
     if not answers[-1].startswith(b"saved "):
         return f"{case.name}: cut at line {cut}, {subcommand} saves nothing"
     saved = answers[-1].rstrip(b"\n").removeprefix(b"saved ")
-    behind = program_output(program, [subcommand, "--resume"], [case.lines[0], saved, *case.lines[cut:]])
+    behind = program_output(harness, [subcommand, "--resume"], [case.lines[0], saved, *case.lines[cut:]])
     if behind is None or b"".join(answers[:-1]) + behind != case.wanted:
         return f"{case.name}: cut at line {cut}, {subcommand} goes on otherwise"
     return None
 
 
-def faults(program: str, case: Case) -> Iterator[Optional[str]]:
+def faults(harness: Harness, case: Case) -> Iterator[Optional[str]]:
     """The results of each cut of a case."""
     places = cuts(case)
     for cut in places:
-        yield fault_at(program, case, cut, "run")
+        yield fault_at(harness, case, cut, "run")
     if places:
-        yield fault_at(program, case, places[len(places) // 2], "live")
+        yield fault_at(harness, case, places[len(places) // 2], "live")
 
 
 def main() -> None:
     """Cuts each case, and counts the results."""
     harness = Harness("resume")
     with ThreadPoolExecutor(os.cpu_count()) as threads:
-        for found in threads.map(lambda case: list(faults(harness.program, case)), cases()):
+        for found in threads.map(lambda case: list(faults(harness, case)), cases()):
             for fault in found:
                 harness.compare("a cut", None, fault)
     harness.end()

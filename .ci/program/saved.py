@@ -13,7 +13,6 @@ import copy
 import json
 import os
 import re
-import subprocess
 from concurrent.futures import ThreadPoolExecutor
 from typing import Any, Callable, Iterator, NamedTuple
 
@@ -23,7 +22,6 @@ MOST_BYTES = 16_777_216
 MOST_OBJECTS = 4_096
 LAST_MOMENT, LAST_TIME = 2**60, 2**61
 LONGEST_INTERVAL = 525_600 * 86_400 * 1_000
-SECONDS = 60
 SETUP = {"hosts": [{"name": "h", "max_check_attempts": 3}],
          "services": [{"host": "h", "description": "s", "max_check_attempts": 4}, {"host": "h", "description": "t", "max_check_attempts": 1}]}
 # After the first takes: `h` is a soft problem, `h;s` is running and forced, `h;t` was never checked and is off.
@@ -43,18 +41,17 @@ class Answer(NamedTuple):
     status: int
 
 
-def answer_after(program: str, state: str, behind: list[str], word: str = "run", setup: State = SETUP) -> Answer:
+def answer_after(harness: Harness, state: str, behind: list[str], word: str = "run", setup: State = SETUP) -> Answer:
     """The program's answers after a state."""
     given = "\n".join([json.dumps(setup), state, *behind, ""]).encode(errors="surrogateescape")
-    ran = subprocess.run([program, word, "--resume"], input=given, stdout=subprocess.PIPE, stderr=subprocess.PIPE, timeout=SECONDS, check=False)
-    return Answer(ran.stdout.decode(errors="replace"), ran.returncode)
+    written, status = harness.run([word, "--resume"], given)
+    return Answer(written.decode(errors="replace"), status)
 
 
-def saved_state(program: str, setup: State, commands: list[str]) -> str:
+def saved_state(harness: Harness, setup: State, commands: list[str]) -> str:
     """The state after these commands."""
     given = "\n".join([json.dumps(setup), *commands, ""]).encode()
-    ran = subprocess.run([program, "run"], input=given, stdout=subprocess.PIPE, timeout=SECONDS, check=True)
-    return ran.stdout.decode().splitlines()[-1].removeprefix("saved ")
+    return harness.run(["run"], given)[0].decode().splitlines()[-1].removeprefix("saved ")
 
 
 # ---- refusals
@@ -166,7 +163,7 @@ def order_faults() -> Iterator[Fault]:
     yield Fault(with_members(format="1"), "refused K4 Shape")
 
 
-def refusal_results(program: str, text: str) -> Iterator[tuple[str, bool]]:
+def refusal_results(harness: Harness, text: str) -> Iterator[tuple[str, bool]]:
     """Each refusal, by `run` and by `live`."""
     state = json.loads(text)
     for number, fault in enumerate([*limit_faults(), *shape_faults(state), *unlawful_states(), *standing_faults(), *order_faults()]):
@@ -175,29 +172,29 @@ def refusal_results(program: str, text: str) -> Iterator[tuple[str, bool]]:
         line = json.dumps(changed, ensure_ascii=False)
         wanted = Answer(fault.line + "\n", 1) if fault.line else Answer("", 0)
         for word in ("run", "live"):
-            answer = answer_after(program, line, [], word)
+            answer = answer_after(harness, line, [], word)
             yield f"{word}, change {number} of a state: wanted {wanted}, came {answer}", answer == wanted
 
 
 # ---- sizes
 
 
-def size_results(program: str, text: str) -> Iterator[tuple[str, bool]]:
+def size_results(harness: Harness, text: str) -> Iterator[tuple[str, bool]]:
     """States at the limit of bytes and of objects."""
     padded = text + " " * (MOST_BYTES - len(text.encode()))
-    yield "16 MiB", answer_after(program, padded, []) == Answer("", 0)
-    yield "16 MiB and a byte", answer_after(program, padded + " ", []) == Answer("refused K1 TooLong\n", 1)
-    yield "nothing", answer_after(program, "", ['["take",0]']) == Answer("refused K2 NotJson\n", 1)
-    yield "a refused setup comes first", answer_after(program, "", [], setup={"hots": []}) == Answer("refused L2 Shape document\n", 1)
+    yield "16 MiB", answer_after(harness, padded, []) == Answer("", 0)
+    yield "16 MiB and a byte", answer_after(harness, padded + " ", []) == Answer("refused K1 TooLong\n", 1)
+    yield "nothing", answer_after(harness, "", ['["take",0]']) == Answer("refused K2 NotJson\n", 1)
+    yield "a refused setup comes first", answer_after(harness, "", [], setup={"hots": []}) == Answer("refused L2 Shape document\n", 1)
     hosts = [{"name": f"host-{number:024}", "max_check_attempts": 1 + number % 5} for number in range(MOST_OBJECTS)]
     results = [line for number in range(200) for line in ('["take",0]', f'["report","host-{number:024}",{number + 1},{number % 3}]')]
     setup = {"options": {"host_inter_check_delay_method": "n"}, "hosts": hosts}
-    many = saved_state(program, setup, [*results, '["save"]'])
-    again = answer_after(program, many, ['["save"]'], setup=setup)
+    many = saved_state(harness, setup, [*results, '["save"]'])
+    again = answer_after(harness, many, ['["save"]'], setup=setup)
     yield "4,096 objects come back", again == Answer(f"saved {many}\n", 0)
     state = json.loads(many)
     state["objects"].append({**state["objects"][0], "name": "one more"})
-    yield "4,097 objects", answer_after(program, json.dumps(state), [], setup=setup) == Answer("refused K5 TooMany\n", 1)
+    yield "4,097 objects", answer_after(harness, json.dumps(state), [], setup=setup) == Answer("refused K5 TooMany\n", 1)
 
 
 # ---- damage
@@ -236,20 +233,20 @@ def damaged_texts(text: str) -> Iterator[str]:
             yield json.dumps(without_it)
 
 
-def damage_results(program: str, text: str) -> Iterator[tuple[str, bool]]:
+def damage_results(harness: Harness, text: str) -> Iterator[tuple[str, bool]]:
     """The result of each damaged state."""
     states = list(damaged_texts(text))
     with ThreadPoolExecutor(os.cpu_count()) as threads:
-        for state, answer in zip(states, threads.map(lambda state: answer_after(program, state, BEHIND), states)):
+        for state, answer in zip(states, threads.map(lambda state: answer_after(harness, state, BEHIND), states)):
             yield f"a damaged state: {state[:80]}..: {answer}", is_lawful(answer)
 
 
 def main() -> None:
     """Makes all comparisons, and counts the results."""
     harness = Harness("saved")
-    text = saved_state(harness.program, SETUP, BEFORE)
+    text = saved_state(harness, SETUP, BEFORE)
     for results in (refusal_results, size_results, damage_results):
-        for what, is_right in results(harness.program, text):
+        for what, is_right in results(harness, text):
             harness.compare(what, True, is_right)
     harness.end()
 
