@@ -17,7 +17,7 @@
  *
  * The history grows by an entry of 56 bytes with each call, even with a take whose reply is IDLE. So a program that runs for months repeats these
  * steps: let no call be made for a moment, gather, close, save, renew the book (nagsched_renew hands the entries out), and open a desk on it. The
- * new passes have all their calls again. Plugins may run meanwhile. c/examples/loop.c is such a program.
+ * new passes have all their calls again. Plugins may run meanwhile. examples/loop.c is such a program.
  *
  * Moments and times are milliseconds of one clock that the caller chooses, 0 to 2^60. A next check may be as late as 2^61. Moments needn't rise from
  * call to call: each call uses its own. A saved state has moments in it, so its clock has to continue over restarts of program and machine: begin

@@ -9,9 +9,6 @@ INSTALLED = {
     "monitor/nagsched-monitor": "nagsched-monitor",
     "crates/nagsched/out/nagsched": "nagsched",
     "tools/timeline.py": "timeline.py",
-    "c/examples/": "examples/",
-    "python/examples/": "examples/",
-    "monitor/examples/": "examples/",
     "examples/": "share/doc/nagsched/examples/",
     "docs/": "share/doc/nagsched/",
 }

@@ -1,4 +1,4 @@
-/* Makes each mistake that c/nagsched.h names. Each returns WRONG and changes nothing: no handle and no result, and at the end the
+/* Makes each mistake that nagsched.h names. Each returns WRONG and changes nothing: no handle and no result, and at the end the
  * history has only the entries of good calls.
  *
  * Linked with -Wl,--wrap=malloc,--wrap=realloc: while a call that requests memory holds its turn, another thread makes its own call, which

@@ -1,4 +1,4 @@
-"""The numbers of c/nagsched.h: statuses, codes, states, and the kinds of calls, replies and refusals."""
+"""The numbers of nagsched.h: statuses, codes, states, and the kinds of calls, replies and refusals."""
 import enum
 
 # The version of the library's interface that this package needs.

@@ -38,7 +38,7 @@ class RefusalStruct(ctypes.Structure):
     _fields_ = [("kind", ctypes.c_uint32), ("part", ctypes.c_uint32), ("has_index", ctypes.c_uint64), ("index", ctypes.c_uint64)]
 
 
-# The sizes and offsets in c/nagsched.h.
+# The sizes and offsets in nagsched.h.
 LAYOUT = {
     HandleStruct: (16, [0, 8]),
     StandingStruct: (24, [0, 4, 8, 12, 16, 20]),
