@@ -9,9 +9,11 @@ use Rattle.serde_json.specs.View.{items_view}
 use Rattle.serde_json.specs.declared.value.Value.{Value}
 use Rattle.check_objects.specs.JsonTree.{tree_of}
 use Rattle.check_objects.specs.Configuration.{Configuration}
-use Rattle.nagsched_protocol.specs.Command.{call_by, list_command, one_of, save_command, take_call, three_of, two_of}
+use Rattle.nagsched_protocol.specs.Command.{call_by, list_command, one_of, save_command, three_of, two_of, value_count, wrong_count}
 use Rattle.nagsched_protocol.specs.declared.refusal.InputRefusal.{InputRefusal}
 use Rattle.nagsched_protocol.specs.declared.refusal.LineFault.TheVariants as fault
+use Rattle.nagsched_protocol.specs.declared.refusal.LineShape.TheVariants as shape
+use Rattle.nagsched_protocol.specs.declared.refusal.Vocabulary.TheVariants as vocabulary
 
 -- a line that serde_json reads
 pub tree_some : (line : List ℕ) (d : Data) (r : InputRefusal) → IsUtf8 line → read line ≡ Some d → ok_or (tree_of line) r ≡ Ok d
@@ -27,19 +29,18 @@ pub tree_none : (line : List ℕ) (r : InputRefusal) → (IsUtf8 line → read l
 unfolding tree_of
 tree_none line r h = rw (none_by line (is_utf8 line) (λ e. h (IsUtf8-from_is_utf8 line e))) refl
 
--- `take` has one member beside its word
-pub take_members : (vs : List Value) → 2 ≤ length vs → take_call (items_view vs) ≡ Err fault.Shape
-take_members [] h = absurd (omega arith)
-take_members (v ∷ []) h = absurd (omega arith)
-take_members (v ∷ w ∷ vs) h = refl
+-- as many values as the code counts
+pub values_counted : (vs : List Value) → value_count (items_view vs) ≡ length vs
+values_counted [] = refl
+values_counted (v ∷ vs) = let more = values_counted vs in omega (arith, more)
 
 -- `save` has none
-pub save_members : (vs : List Value) → 1 ≤ length vs → save_command (items_view vs) ≡ Err fault.Shape
+pub save_members : (vs : List Value) → 1 ≤ length vs → save_command (items_view vs) ≡ Err (wrong_count (items_view vs) 0)
 save_members [] h = absurd (omega arith)
 save_members (v ∷ vs) h = refl
 
 -- nor has `list`
-pub list_members : (vs : List Value) → 1 ≤ length vs → list_command (items_view vs) ≡ Err fault.Shape
+pub list_members : (vs : List Value) → 1 ≤ length vs → list_command (items_view vs) ≡ Err (wrong_count (items_view vs) 0)
 list_members [] h = absurd (omega arith)
 list_members (v ∷ vs) h = refl
 
@@ -82,5 +83,5 @@ three_many (v ∷ w ∷ x ∷ y ∷ vs) h = refl
 pub call_by_other : (c : Configuration) (word : List ℕ) (ms : Items)
     → bytes_eq word (codes "take") ≡ false → bytes_eq word (codes "report") ≡ false → bytes_eq word (codes "abandon") ≡ false
     → bytes_eq word (codes "reschedule") ≡ false → bytes_eq word (codes "enable") ≡ false → bytes_eq word (codes "status") ≡ false
-    → call_by c word ms ≡ Err fault.Shape
+    → call_by c word ms ≡ Err (fault.Shape (shape.UnknownWord vocabulary.Run))
 call_by_other c word ms a b d e f g = rw (a, b, d, e, f, g) refl

@@ -2,19 +2,19 @@
 use Rattle.std.proofs.Common.{◌≡◌, ℕ, suc, zero, ◌+◌, ◌≤◌, ◌<◌, ◌==◌, Bool, true, false, cond, ◌&&◌}
 use Rattle.std.proofs.Common.{List, [], ◌∷◌, ◌++◌, length, map, replicate, Option, Some, None, get_or, append-nil}
 use Rattle.std.proofs.Common.{refl, sym, ◌∙◌, ap, inl, inr, arith, Result, Ok, Err}
-use Rattle.std.specs.Prelude.{nat_lt, is_some, unwrap_or, filter_map}
-use Rattle.std.specs.List.{list_all, last_or, range_with_len, cons_option}
+use Rattle.std.specs.Prelude.{nat_lt, unwrap_or, filter_map}
+use Rattle.std.specs.List.{last_or, range_with_len, cons_option}
 use Rattle.std.proofs.Math.ListN.{set}
 use Rattle.std.proofs.lemmas.List.{ext_get_or, get_or-set_same, get_or-set_other, length-set}
 use Rattle.std.proofs.lemmas.List.Elements.{filter_map-append}
 use Rattle.std.proofs.lemmas.List.FromFn.{get_or-map-range_with_len, length-map-range_with_len}
 use Rattle.std.proofs.lemmas.Bool.{cases_eq, eq-eqb, ne_eqb}
-use Rattle.serde_json.specs.View.{view, items_view}
+use Rattle.serde_json.specs.View.{items_view, view}
 use Rattle.serde_json.specs.declared.value.Value.{Value}
 use Rattle.check_objects.specs.Configuration.{Configuration, object_count}
-use Rattle.check_objects.specs.JsonTree.{◌>=>◌, whole_number}
 use Rattle.check_states.specs.declared.state.Code.{Code}
-use Rattle.nagsched_protocol.specs.DrillCommand.{Command, PluginOf, MomentAt, are_numbers, are_nonempty_numbers, drill_command_by}
+use Rattle.nagsched_protocol.specs.Command.{value_count}
+use Rattle.nagsched_protocol.specs.DrillCommand.{Command, PluginOf, MomentAt, drill_command_by, first_and_more, plugin_command, plugin_of}
 use Rattle.nagsched_protocol.specs.DrillCommanded.{drill_command}
 use Rattle.nagsched_protocol.specs.DrillScript.{DrillScript, drill_over, drill_script_of, returns_after, moment_of, moments_in}
 use Rattle.nagsched_protocol.specs.DrillScript.{returns_below, returns_by, returns_of}
@@ -22,31 +22,34 @@ use Rattle.setup_model.specs.Agreement.{◌>>=◌}
 use Rattle.nagsched_protocol.specs.Input.{first_line_of, lines_of}
 use Rattle.nagsched_protocol.specs.LiveInput.{rest_after_line}
 use Rattle.nagsched_protocol.specs.Script.{commands_of_lines, with_setup_refusal}
-use Rattle.nagsched_protocol.specs.declared.refusal.InputRefusal.TheVariants as refusal
 use Rattle.nagsched_protocol.specs.declared.refusal.LineFault.TheVariants as fault
+use Rattle.nagsched_protocol.specs.declared.refusal.LineShape.TheVariants as shape
 use borrow.Author.Tests.{ltb-false}
 use Rattle.check_objects.specs.Setup.{setup_of}
 use Rattle.nagsched_protocol.proofs.InputLemmas.{behind_fewer}
 use Rattle.nagsched_protocol.specs.declared.drill_command.DrillCommand.{DrillCommand}
 use Rattle.nagsched_protocol.specs.declared.script.TheConstants.{MAX_INPUT_BYTES}
 use Rattle.nagsched_protocol.specs.declared.refusal.InputRefusal.{InputRefusal}
+use Rattle.nagsched_protocol.specs.declared.refusal.InputRefusal.TheVariants as refusal
 use Rattle.nagsched_protocol.proofs.ScriptLemmas.{few_behind}
 
--- ---- members
+-- ---- values
 
--- return codes that go on with those that follow, if there are any
-abbrev pub codes_with_front : List Code → Option (List Code) → Option (List Code)
-codes_with_front front rest = rest >=> λ more. Some (front ++ more)
+-- too few values for a plugin
+few_found : (vs : List Value) → length vs < 2 → first_and_more (items_view vs) ≡ None
+few_found [] h = refl
+few_found (v ∷ []) h = refl
+few_found (v ∷ w ∷ vs) h = absurd (omega arith)
 
--- all values are numbers where all members are
-are_numbers_all : (vs : List Value) → list_all (λ v. is_some (whole_number (view v))) vs ≡ are_numbers (items_view vs)
-are_numbers_all [] = refl
-are_numbers_all (v ∷ vs) = ap (λ b. is_some (whole_number (view v)) && b) (are_numbers_all vs)
+pub few_values : (c : Configuration) (vs : List Value) → length vs < 2
+    → plugin_command c (items_view vs) ≡ Err (fault.Shape (shape.TooFew (value_count (items_view vs)) 2))
+few_values c vs h = rw (few_found vs h) refl
 
--- the same of one member or more
-pub are_some_all : (vs : List Value) → 1 ≤ length vs → list_all (λ v. is_some (whole_number (view v))) vs ≡ are_nonempty_numbers (items_view vs)
-are_some_all [] h = absurd (omega arith)
-are_some_all (v ∷ vs) h = are_numbers_all (v ∷ vs)
+-- enough of them
+pub plugin_values : (c : Configuration) (vs rest : List Value) (v : Value) → vs ≡ v ∷ rest → 1 ≤ length rest
+    → plugin_command c (items_view vs) ≡ plugin_of c (view v) (items_view rest)
+plugin_values c vs [] v e h = absurd (omega arith)
+plugin_values c vs (w ∷ rest) v e h = rw e refl
 
 -- ---- moments
 

@@ -4,11 +4,14 @@ pub mod LineLaws
 pub mod LiveInputLemmas
 pub mod KeptLemmas
 pub mod CommandLemmas
+pub mod RequestLemmas
 pub mod ScriptLemmas
 pub mod DrillLemmas
 pub mod OutputLemmas
 pub mod WrittenLemmas
 pub mod TextLemmas
+pub mod JsonLemmas
 pub mod LiveLaws
 pub mod NameLengthLemmas
+pub mod ExplanationLemmas
 pub mod FlatLemmas

@@ -10,6 +10,8 @@ use Rattle.check_saved_state.specs.Saved.{Saved}
 use Rattle.check_saved_state.specs.Text.{saved_of_text}
 use Rattle.check_sched.specs.Saved.{state_after_resume}
 use Rattle.check_sched.specs.State.{State, opening}
+use Rattle.nagsched_protocol.specs.declared.answer_form.AnswerForm.{AnswerForm}
+use Rattle.nagsched_protocol.specs.declared.answer_form.AnswerForm.TheVariants as forms
 use Rattle.nagsched_protocol.specs.declared.command.RunCommand.{RunCommand}
 use Rattle.nagsched_protocol.proofs.TextLemmas.{command_keeps}
 use Rattle.nagsched_protocol.specs.declared.refusal.InputRefusal.{InputRefusal}
@@ -26,9 +28,11 @@ use Rattle.nagsched_protocol.specs.Script.{Beginning, Script, beginning_of, begi
 use Rattle.nagsched_protocol.specs.Script.{state_after_resume_at, script_from, script_of, if_within_limit}
 use Rattle.nagsched_protocol.proofs.LiveInputLemmas.{behind_stays, first_stays, lines_apart}
 use Rattle.nagsched_protocol.proofs.ScriptLemmas.{commands_by_number, commands_from}
-use Rattle.nagsched_protocol.specs.LiveText.{BeginsWith, HasStart, line_answer, answers_from, answers_over, live_text, line_meaning, state_after_line}
+use Rattle.nagsched_protocol.specs.LiveText.{BeginsWith, HasStart, line_answer, answers_from, answers_over, live_text, line_meaning, plain, state_after_line}
 use Rattle.nagsched_protocol.specs.Output.{AreWholeLines}
-use Rattle.nagsched_protocol.specs.Text.{answer_line, refusal_line, script_text, state_after_command, text, text_from}
+use Rattle.nagsched_protocol.specs.Forms.{refusal_text}
+use Rattle.nagsched_protocol.specs.Request.{Request}
+use Rattle.nagsched_protocol.specs.Text.{answer_line, script_text, state_after_command, text, text_from}
 
 abbrev pub script_with : State → List RunCommand → Script
 script_with s all = record { state = s; commands = all }
@@ -59,36 +63,37 @@ commands_said c n line lines =
       | false ↦ onto_command (command_of (command_by c) n line) (commands_from (command_by c) (n + 1) lines)
     ]
 
-agree_by : (s : State) (n : ℕ) (lines : List (List ℕ)) (said_here : Result (Option RunCommand) InputRefusal) (rest : Result (List RunCommand) InputRefusal) (all : List RunCommand)
-    → ((t : State) (more : List RunCommand) → t.setup ≡ s.setup → rest ≡ Ok more → answers_from t (n + 1) lines ≡ text_from t more)
+agree_by : (s : State) (n : ℕ) (line : List ℕ) (lines : List (List ℕ)) (said_here : Result (Option RunCommand) InputRefusal) (rest : Result (List RunCommand) InputRefusal)
+    (all : List RunCommand)
+    → ((t : State) (more : List RunCommand) → t.setup ≡ s.setup → rest ≡ Ok more → answers_from forms.Words t (n + 1) lines ≡ text_from t more)
     → onto said_here rest ≡ Ok all
-    → line_answer s said_here ++ answers_from (state_after_line s said_here) (n + 1) lines ≡ text_from s all
-agree_by s n lines (Ok None) rest all again e = again s all refl e
-agree_by s n lines (Ok (Some call)) (Ok more) all again e =
+    → line_answer forms.Words s n line (plain said_here) ++ answers_from forms.Words (state_after_line s (plain said_here)) (n + 1) lines ≡ text_from s all
+agree_by s n line lines (Ok None) rest all again e = again s all refl e
+agree_by s n line lines (Ok (Some call)) (Ok more) all again e =
     let same : call ∷ more ≡ all = cc in
     ap (λ l. answer_line s call ++ l) (again (state_after_command s call) more (command_keeps s call) refl) ∙ ap (text_from s) same
-agree_by s n lines (Ok (Some call)) (Err why) all again e = cc
-agree_by s n lines (Err why) rest all again e = cc
+agree_by s n line lines (Ok (Some call)) (Err why) all again e = cc
+agree_by s n line lines (Err why) rest all again e = cc
 
 pub answers_agree : (lines : List (List ℕ)) (c : Configuration) (s : State) (n : ℕ) (all : List RunCommand) → s.setup ≡ c
-    → commands_from (command_by c) n lines ≡ Ok all → answers_from s n lines ≡ text_from s all
+    → commands_from (command_by c) n lines ≡ Ok all → answers_from forms.Words s n lines ≡ text_from s all
 answers_agree [] c s n all same e = let none : [] ≡ all = cc in ap (text_from s) none
 answers_agree (line ∷ lines) c s n all same e =
-    agree_by s n lines (line_meaning s n line) (commands_from (command_by s.setup) (n + 1) lines) all
+    agree_by s n line lines (line_meaning_by (command_by s.setup) n line) (commands_from (command_by s.setup) (n + 1) lines) all
     (λ t more kept f. answers_agree lines s.setup t (n + 1) more kept f)
     (sym (commands_said s.setup n line lines) ∙ ap (λ d. commands_from (command_by d) n (line ∷ lines)) same ∙ e)
 
 over_commands : (b : Beginning) (script : Script) (all : Result (List RunCommand) InputRefusal)
     → commands_from (command_by b.state.setup) b.number (lines_of b.rest) ≡ all
     → (all >>= λ l. Ok (script_with b.state l)) ≡ Ok script
-    → answers_from b.state b.number (lines_of b.rest) ≡ text_from script.state script.commands
+    → answers_from forms.Words b.state b.number (lines_of b.rest) ≡ text_from script.state script.commands
 over_commands b script (Err e) same h = cc
 over_commands b script (Ok l) same h =
     let is : (script_with b.state l) ≡ script = cc in
     answers_agree (lines_of b.rest) b.state.setup b.state b.number l refl same ∙ ap (λ (s : Script). text_from s.state s.commands) is
 
 over_agrees : (r : Result Beginning InputRefusal) (script : Script) → (r >>= script_from) ≡ Ok script
-    → answers_over r ≡ text_from script.state script.commands
+    → answers_over forms.Words r ≡ text_from script.state script.commands
 over_agrees (Err e) script h = cc
 over_agrees (Ok b) script h =
     over_commands b script (commands_of_lines b.number (command_by b.state.setup) (lines_of b.rest))
@@ -108,7 +113,7 @@ run_text : (how : Start) (input : List ℕ) (script : Script) → script_of how 
 unfolding text
 run_text how input script e = ap script_text e
 
-pub agrees : (how : Start) (input : List ℕ) (script : Script) → script_of how input ≡ Ok script → live_text how input ≡ text how input
+pub agrees : (how : Start) (input : List ℕ) (script : Script) → script_of how input ≡ Ok script → live_text forms.Words how input ≡ text how input
 unfolding live_text
 agrees how input script e = over_agrees (beginning_of how input) script (accepted how input script e) ∙ sym (run_text how input script e)
 
@@ -187,11 +192,12 @@ feed_last (b ∷ bs) = elim (b == 10) as (λ v. cond v true (has_feed (bs ++ 10 
   | false ↦ feed_last bs
 ]
 
-pub answers_apart : (s : State) (n : ℕ) (xs ys : List (List ℕ)) → (rest : List ℕ) × (answers_from s n (xs ++ ys) ≡ answers_from s n xs ++ rest)
-answers_apart s n [] ys = (answers_from s n ys, refl)
-answers_apart s n (x ∷ xs) ys =
-    let again = answers_apart (state_after_line s (line_meaning s n x)) (n + 1) xs ys in
-    let first = line_answer s (line_meaning s n x) in
+pub answers_apart : (form : AnswerForm) (s : State) (n : ℕ) (xs ys : List (List ℕ)) → (rest : List ℕ) × (answers_from form s n (xs ++ ys) ≡ answers_from form s n xs ++ rest)
+answers_apart form s n [] ys = (answers_from form s n ys, refl)
+answers_apart form s n (x ∷ xs) ys =
+    let r = line_meaning form s.setup n x in
+    let again = answers_apart form (state_after_line s r) (n + 1) xs ys in
+    let first = line_answer form s n x r in
     (again.0, ap (λ l. first ++ l) again.1 ∙ sym (append_assoc first _ again.0))
 
 -- a beginning with more bytes behind it
@@ -271,51 +277,61 @@ left_by how front b start h =
     setup_left how (with_setup_refusal (setup_of (first_line_of (front ++ 10 ∷ [])))) (rest_after_line (front ++ 10 ∷ [])) b start (behind_whole front) h
 
 -- the text of whole lines and of what comes later
-parts : (how : Start) (front back : List ℕ) (b : Beginning) → HasStart how (rest_after_line (front ++ 10 ∷ []))
+parts : (form : AnswerForm) (how : Start) (front back : List ℕ) (b : Beginning) → HasStart how (rest_after_line (front ++ 10 ∷ []))
     → beginning_of how (front ++ 10 ∷ []) ≡ Ok b
-    → live_text how ((front ++ 10 ∷ []) ++ back) ≡ answers_from b.state b.number (lines_of b.rest ++ lines_of back)
+    → live_text form how ((front ++ 10 ∷ []) ++ back) ≡ answers_from form b.state b.number (lines_of b.rest ++ lines_of back)
 unfolding live_text
-parts how front back b h e =
-    ap answers_over (begins_on how front back h ∙ ap (more back) e)
-    ∙ ap (answers_from b.state b.number) (lines_by b.rest back (left_by how front b h e).whole)
+parts form how front back b h e =
+    ap (answers_over form) (begins_on how front back h ∙ ap (more back) e)
+    ∙ ap (answers_from form b.state b.number) (lines_by b.rest back (left_by how front b h e).whole)
 
-goes_on_by : (how : Start) (front back : List ℕ) (r : Result Beginning InputRefusal) → HasStart how (rest_after_line (front ++ 10 ∷ []))
+goes_on_by : (form : AnswerForm) (how : Start) (front back : List ℕ) (r : Result Beginning InputRefusal) → HasStart how (rest_after_line (front ++ 10 ∷ []))
     → beginning_of how (front ++ 10 ∷ []) ≡ r
-    → (rest : List ℕ) × (live_text how ((front ++ 10 ∷ []) ++ back) ≡ answers_over r ++ rest)
+    → (rest : List ℕ) × (live_text form how ((front ++ 10 ∷ []) ++ back) ≡ answers_over form r ++ rest)
 unfolding live_text
-goes_on_by how front back (Ok b) h e =
-    let apart = answers_apart b.state b.number (lines_of b.rest) (lines_of back) in
-    (apart.0, parts how front back b h e ∙ apart.1)
-goes_on_by how front back (Err why) h e = ([], ap answers_over (begins_on how front back h ∙ ap (more back) e) ∙ sym (append-nil _))
+goes_on_by form how front back (Ok b) h e =
+    let apart = answers_apart form b.state b.number (lines_of b.rest) (lines_of back) in
+    (apart.0, parts form how front back b h e ∙ apart.1)
+goes_on_by form how front back (Err why) h e = ([], ap (answers_over form) (begins_on how front back h ∙ ap (more back) e) ∙ sym (append-nil _))
 
-pub goes_on : (how : Start) (front back : List ℕ) → HasStart how (rest_after_line (front ++ 10 ∷ []))
-    → (rest : List ℕ) × (live_text how ((front ++ 10 ∷ []) ++ back) ≡ live_text how (front ++ 10 ∷ []) ++ rest)
+pub goes_on : (form : AnswerForm) (how : Start) (front back : List ℕ) → HasStart how (rest_after_line (front ++ 10 ∷ []))
+    → (rest : List ℕ) × (live_text form how ((front ++ 10 ∷ []) ++ back) ≡ live_text form how (front ++ 10 ∷ []) ++ rest)
 unfolding live_text
-goes_on how front back h = goes_on_by how front back (beginning_of how (front ++ 10 ∷ [])) h refl
+goes_on form how front back h = goes_on_by form how front back (beginning_of how (front ++ 10 ∷ [])) h refl
 
 -- ---- a refused line
 
-state_after-setup : (s : State) (r : Result (Option RunCommand) InputRefusal) → (state_after_line s r).setup ≡ s.setup
+state_after-setup : (s : State) (r : Result (Option Request) InputRefusal) → (state_after_line s r).setup ≡ s.setup
 state_after-setup s (Ok None) = refl
-state_after-setup s (Ok (Some call)) = command_keeps s call
+state_after-setup s (Ok (Some request)) = command_keeps s request.command
 state_after-setup s (Err why) = refl
 
--- the same answers except for that of the refused line
-abbrev pub Passes : List ℕ → List ℕ → InputRefusal → Type 0
-Passes refused passed why = (before : List ℕ) × (behind : List ℕ) × (refused ≡ before ++ (refusal_line why ++ behind)) × (passed ≡ before ++ behind)
+no_meaning : (form : AnswerForm) (c : Configuration) (n : ℕ) → line_meaning form c n [] ≡ Ok None
+no_meaning forms.Words c n = refl
+no_meaning forms.Explained c n = refl
+no_meaning forms.Json c n = refl
 
-pub passes_in : (xs : List (List ℕ)) (s : State) (n : ℕ) (line : List ℕ) (ys : List (List ℕ)) (why : InputRefusal)
-    → line_meaning_by (command_by s.setup) (n + length xs) line ≡ Err why
-    → Passes (answers_from s n (xs ++ line ∷ ys)) (answers_from s n (xs ++ [] ∷ ys)) why
-passes_in [] s n line ys why e =
-    let here : line_meaning s n line ≡ Err why = ap (λ k. line_meaning_by (command_by s.setup) k line) (let z : n ≡ n + 0 = omega arith in z) ∙ e in
-    ([], answers_from s (n + 1) ys, ap (λ r. line_answer s r ++ answers_from (state_after_line s r) (n + 1) ys) here, refl)
-passes_in (x ∷ xs) s n line ys why e =
-    let r = line_meaning s n x in
-    let first = line_answer s r in
+-- the same answers except for that of the refused line
+abbrev pub Passes : AnswerForm → List ℕ → List ℕ → List ℕ → InputRefusal → Type 0
+Passes form line refused passed why =
+    (before : List ℕ) × (behind : List ℕ) × (refused ≡ before ++ (refusal_text form line why ++ behind)) × (passed ≡ before ++ behind)
+
+pub passes_in : (form : AnswerForm) (xs : List (List ℕ)) (s : State) (n : ℕ) (line : List ℕ) (ys : List (List ℕ)) (why : InputRefusal)
+    → line_meaning form s.setup (n + length xs) line ≡ Err why
+    → Passes form line (answers_from form s n (xs ++ line ∷ ys)) (answers_from form s n (xs ++ [] ∷ ys)) why
+passes_in form [] s n line ys why e =
+    let here : line_meaning form s.setup n line ≡ Err why = ap (λ k. line_meaning form s.setup k line) (let z : n ≡ n + 0 = omega arith in z) ∙ e in (
+      [],
+      answers_from form s (n + 1) ys,
+      ap (λ r. line_answer form s n line r ++ answers_from form (state_after_line s r) (n + 1) ys) here,
+      ap (λ r. line_answer form s n [] r ++ answers_from form (state_after_line s r) (n + 1) ys) (no_meaning form s.setup n),
+    )
+passes_in form (x ∷ xs) s n line ys why e =
+    let r = line_meaning form s.setup n x in
+    let first = line_answer form s n x r in
     let kept = state_after-setup s r in
-    let there = ap (λ k. line_meaning_by (command_by s.setup) k line) (let z : n + 1 + length xs ≡ n + suc (length xs) = omega arith in z) ∙ e in
-    let again = passes_in xs (state_after_line s r) (n + 1) line ys why (ap (λ c. line_meaning_by (command_by c) (n + 1 + length xs) line) kept ∙ there) in
+    let there = ap (λ k. line_meaning form s.setup k line) (let z : n + 1 + length xs ≡ n + suc (length xs) = omega arith in z) ∙ e in
+    let again = passes_in form xs (state_after_line s r) (n + 1) line ys why (ap (λ c. line_meaning form c (n + 1 + length xs) line) kept ∙ there) in
     (first ++ again.0, again.1, ap (λ l. first ++ l) again.2 ∙ sym (append_assoc first again.0 _), ap (λ l. first ++ l) again.3 ∙ sym (append_assoc first again.0 again.1))
 
 -- a line without a line feed, and those behind it
@@ -333,17 +349,17 @@ pub count_apart : (front : List ℕ) → length (lines_of (front ++ 10 ∷ [])) 
 count_apart [] = ap length (lines_apart 10 [])
 count_apart (b ∷ bs) = ap length (lines_apart b (bs ++ 10 ∷ []))
 
-pub passes : (how : Start) (b : Beginning) (front line back : List ℕ) (why : InputRefusal)
+pub passes : (form : AnswerForm) (how : Start) (b : Beginning) (front line back : List ℕ) (why : InputRefusal)
     → HasStart how (rest_after_line (front ++ 10 ∷ [])) → beginning_of how (front ++ 10 ∷ []) ≡ Ok b → has_feed line ≡ false
-    → line_meaning_by (command_by b.state.setup) (length (lines_of (front ++ 10 ∷ [])) + 1) line ≡ Err why
-    → Passes (live_text how ((front ++ 10 ∷ []) ++ (line ++ 10 ∷ back))) (live_text how ((front ++ 10 ∷ []) ++ (10 ∷ back))) why
-passes how b front line back why h s free e =
+    → line_meaning form b.state.setup (length (lines_of (front ++ 10 ∷ [])) + 1) line ≡ Err why
+    → Passes form line (live_text form how ((front ++ 10 ∷ []) ++ (line ++ 10 ∷ back))) (live_text form how ((front ++ 10 ∷ []) ++ (10 ∷ back))) why
+passes form how b front line back why h s free e =
     let xs = lines_of b.rest in
     let left = left_by how front b h s in
     let number : b.number + length xs ≡ length (lines_of (front ++ 10 ∷ [])) + 1 = omega (arith, count_apart front, left.count) in
-    let p = passes_in xs b.state b.number line (lines_of back) why (ap (λ k. line_meaning_by (command_by b.state.setup) k line) number ∙ e) in (
+    let p = passes_in form xs b.state b.number line (lines_of back) why (ap (λ k. line_meaning form b.state.setup k line) number ∙ e) in (
       p.0,
       p.1,
-      parts how front (line ++ 10 ∷ back) b h s ∙ ap (λ l. answers_from b.state b.number (xs ++ l)) (line_first line back free) ∙ p.2,
-      parts how front (10 ∷ back) b h s ∙ p.3,
+      parts form how front (line ++ 10 ∷ back) b h s ∙ ap (λ l. answers_from form b.state b.number (xs ++ l)) (line_first line back free) ∙ p.2,
+      parts form how front (10 ∷ back) b h s ∙ p.3,
     )

@@ -1,5 +1,5 @@
 -- The text of a run, call by call, and of a history, entry by entry.
-use Rattle.std.proofs.Common.{◌≡◌, ℕ, suc, zero, List, [], ◌∷◌, ◌++◌, refl, ap, ◌∙◌, append_assoc, append-nil, sym, arith, drop, length, ◌+◌, ◌≤◌, ◌<◌, get_or}
+use Rattle.std.proofs.Common.{Option, ◌≡◌, ℕ, suc, zero, List, [], ◌∷◌, ◌++◌, refl, ap, ◌∙◌, append_assoc, append-nil, sym, arith, drop, length, ◌+◌, ◌≤◌, ◌<◌, get_or}
 use Rattle.std.specs.Prelude.{codes, decimal, flat_map}
 use Rattle.check_saved_state.specs.Text.{saved_text}
 use Rattle.check_sched.specs.Saved.{saved_of}
@@ -19,8 +19,16 @@ use Rattle.check_sched.specs.declared.call.Reply.{Reply}
 use Rattle.nagsched_protocol.specs.Output.{EndsLine}
 use Rattle.check_objects.specs.Configuration.{name_of, object_count}
 use Rattle.check_sched.specs.State.{next_of, run_number_of, standing_at}
-use Rattle.nagsched_protocol.specs.Text.{answer_line, text_from, entry_line, line_of, list_lines, listed_line, listed_text, reply_text, saved_line}
-use Rattle.nagsched_protocol.specs.Text.{state_after_command, total_line, total_text}
+use Rattle.nagsched_protocol.specs.Text.{refusal_line, answer_line, text_from, entry_line, line_of, list_lines, listed_line, listed_text, reply_text, saved_line}
+use Rattle.nagsched_protocol.specs.Text.{answer_of, input_refusal_text, refused_text, state_after_command, total_line, total_text}
+use Rattle.nagsched_protocol.specs.declared.answer_form.AnswerForm.{AnswerForm}
+use Rattle.nagsched_protocol.specs.declared.answer_form.AnswerForm.TheVariants as forms
+use Rattle.nagsched_protocol.specs.declared.refusal.InputRefusal.{InputRefusal}
+use Rattle.nagsched_protocol.specs.Explanation.{sentence}
+use Rattle.nagsched_protocol.specs.Request.{Id, Request, id_of_line}
+use Rattle.nagsched_protocol.specs.Forms.{answer_text, json_command_line, refusal_text}
+use Rattle.nagsched_protocol.specs.JsonText.{answer_members, json_list_line, json_saved_line, json_saved_text, list_members, object_text, refusal_answer}
+use Rattle.nagsched_protocol.specs.JsonText.{refused_line}
 
 -- a command leaves the setup
 pub command_keeps : (s : State) (c : RunCommand) → (state_after_command s c).setup ≡ s.setup
@@ -58,7 +66,7 @@ range_more n =
     sym (map-id (range_with_len 0 (n + 1))) ∙ map-range_with_len_more (λ k. k) 0 n n (omega arith) ∙ ap (λ l. l ++ n ∷ []) (map-id (range_with_len 0 n))
 
 -- the lines go on with the next object's
-pub listed_more : (f : ℕ → List ℕ) (n : ℕ) (head was more : List ℕ) → more ≡ was ++ f n → was ≡ head ++ flat_map f (range_with_len 0 n)
+pub listed_more : {A : Type 0} (f : ℕ → List A) (n : ℕ) (head was more : List A) → more ≡ was ++ f n → was ≡ head ++ flat_map f (range_with_len 0 n)
     → more ≡ head ++ flat_map f (range_with_len 0 (n + 1))
 listed_more f n head was more pushed before =
     pushed ∙ ap (λ l. l ++ f n) before ∙ flat_map_more f head (range_with_len 0 n) n ∙ ap (λ l. head ++ flat_map f l) (sym (range_more n))
@@ -77,6 +85,26 @@ unfolding saved_line list_lines
 answer_line_ends s (command.Call call) = (reply_text s.setup call (step s call).1, refl)
 answer_line_ends s command.Save = (codes "saved " ++ saved_text (saved_of s), refl)
 answer_line_ends s command.List = listed_ends s (object_count s.setup) 0 (codes "listed " ++ decimal (object_count s.setup))
+
+-- the same in each form
+json_ends : (n : ℕ) (id : Option Id) (s : State) (c : RunCommand) → EndsLine (json_command_line n id s c)
+unfolding json_saved_line json_list_line
+json_ends n id s (command.Call call) = (object_text n id (answer_members (answer_of s.setup call (step s call).1)), refl)
+json_ends n id s command.Save = (json_saved_text n id s, refl)
+json_ends n id s command.List = (object_text n id (list_members s), refl)
+
+pub answer_text_ends : (form : AnswerForm) (n : ℕ) (s : State) (r : Request) → EndsLine (answer_text form n s r)
+answer_text_ends forms.Words n s r = answer_line_ends s r.command
+answer_text_ends forms.Explained n s r = answer_line_ends s r.command
+answer_text_ends forms.Json n s r = json_ends n r.id s r.command
+
+pub refusal_text_ends : (form : AnswerForm) (line : List ℕ) (why : InputRefusal) → EndsLine (refusal_text form line why)
+refusal_text_ends forms.Words line why = (refused_text (input_refusal_text why), refl)
+refusal_text_ends forms.Explained line why = (
+  refusal_line why ++ (codes "explained " ++ sentence line why),
+  sym (append_assoc (refusal_line why) (codes "explained " ++ sentence line why) (10 ∷ [])),
+)
+refusal_text_ends forms.Json line why = (object_text (refused_line why) (id_of_line line) (answer_members (refusal_answer line why)), refl)
 
 pub entry_line_ends : (c : Configuration) (e : Entry Call Reply) → EndsLine (entry_line c e)
 entry_line_ends c e =

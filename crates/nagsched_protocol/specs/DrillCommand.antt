@@ -1,15 +1,16 @@
 -- The words of `drill`, and the command that each means with the members after it.
-use Rattle.std.specs.Prelude.{ℕ, ◌&&◌, Bool, true, false, List, [], ◌∷◌, Option, Some, None, Result, Ok, Err, ok_or, is_some, codes, bytes_eq, if◌then◌else◌}
+use Rattle.std.specs.Prelude.{ℕ, ◌+◌, List, [], ◌∷◌, Option, Some, None, Result, Ok, Err, ok_or, option_map, is_some, codes, bytes_eq, if◌then◌else◌}
 use Rattle.serde_json.specs.Data.{Data, Items, no_items, item}
-use Rattle.serde_json.specs.Find.{as_str}
-use Rattle.check_objects.specs.JsonTree.{◌>=>◌, whole_number}
+use Rattle.check_objects.specs.JsonTree.{whole_number}
 use Rattle.check_objects.specs.Configuration.{Configuration}
 use Rattle.check_states.specs.declared.state.Code.{Code}
 use Rattle.nagsched_protocol.specs.declared.refusal.LineFault.{LineFault}
 use Rattle.nagsched_protocol.specs.declared.refusal.LineFault.TheVariants as fault
-use Rattle.setup_model.specs.Agreement.{◌>>=◌}
-use Rattle.check_states.specs.Numbers.{code_of_number}
-use Rattle.nagsched_protocol.specs.Command.{object_named, one_of}
+use Rattle.nagsched_protocol.specs.declared.refusal.LineShape.TheVariants as shape
+use Rattle.nagsched_protocol.specs.declared.refusal.ValueKind.TheVariants as kind
+use Rattle.nagsched_protocol.specs.declared.refusal.Vocabulary.TheVariants as vocabulary
+use Rattle.setup_model.specs.Agreement.{◌>>=◌, ok_unless}
+use Rattle.nagsched_protocol.specs.Command.{code_in, name_in, number_in, object_named, one_of, value_count, wrong_count, wrong_kind}
 
 -- a command of a drill
 pub data Command : Type 0 where
@@ -18,51 +19,41 @@ pub data Command : Type 0 where
   -- one more moment
   MomentAt : ℕ → Command
 
--- ---- the members after a word
+-- ---- the members after a word: they are its values, counted from 1
 
--- whether all are whole numbers
-abbrev pub are_numbers : Items → Bool
-are_numbers no_items = true
-are_numbers (item d ds) = is_some (whole_number d) && are_numbers ds
+-- a value, and those after it, at least one
+abbrev pub first_and_more : Items → Option (Data × Items)
+first_and_more (item name (item d ds)) = Some (name, item d ds)
+first_and_more members = None
 
--- whether they are whole numbers, at least one
-abbrev pub are_nonempty_numbers : Items → Bool
-are_nonempty_numbers no_items = false
-are_nonempty_numbers (item d ds) = are_numbers (item d ds)
+-- the number of the first value that isn't a whole number; the first of these values has this number
+abbrev pub first_other : ℕ → Items → Option ℕ
+first_other number no_items = None
+first_other number (item d ds) = if is_some (whole_number d) then first_other (number + 1) ds else Some number
 
--- a name, and after it whole numbers, at least one
-abbrev pub name_and_codes : Items → Option (List ℕ × Items)
-name_and_codes no_items = None
-name_and_codes (item name returned) = if are_nonempty_numbers returned then (as_str name >=> λ n. Some (n, returned)) else None
+-- the return codes that values are, if each is one; the first of these values has this number
+abbrev pub codes_from : ℕ → Items → Result (List Code) LineFault
+codes_from number no_items = Ok []
+codes_from number (item d ds) = code_in number d >>= λ first. (codes_from (number + 1) ds >>= λ more. Ok (first ∷ more))
 
--- only a number
-abbrev pub sole_number : Items → Option ℕ
-sole_number members = one_of members >=> whole_number
+-- ---- one definition per word, over the values after the word: the tests are their number, their kinds in order, the return codes, the name
 
--- the return code that a member is
-abbrev pub code_in : Data → Option Code
-code_in d = whole_number d >=> code_of_number
-
--- the return codes that members are, if each is one
-abbrev pub codes_in : Items → Option (List Code)
-codes_in no_items = Some []
-codes_in (item d ds) = code_in d >=> λ first. (codes_in ds >=> λ more. Some (first ∷ more))
-
--- ---- one definition per word, over the members after the word: the tests are their number and kinds, then the return codes, then the name
+abbrev pub plugin_of : Configuration → Data → Items → Result Command LineFault
+plugin_of c name returned = name_in name >>= λ n. (ok_unless (option_map (λ number. wrong_kind number kind.Code) (first_other 2 returned)) >>= λ _.
+    (codes_from 2 returned >>= λ list. (object_named c n >>= λ object. Ok (PluginOf object list))))
 
 -- `["plugin",name,code,..]`: the plugin of the object `name` returns these codes, one after another
 abbrev pub plugin_command : Configuration → Items → Result Command LineFault
 plugin_command c members =
-    ok_or (name_and_codes members) fault.Shape >>= λ p. (ok_or (codes_in p.1) fault.Code >>= λ returned.
-    (object_named c p.0 >>= λ object. Ok (PluginOf object returned)))
+    ok_or (first_and_more members) (fault.Shape (shape.TooFew (value_count members) 2)) >>= λ p. plugin_of c p.0 p.1
 
 -- `["moment",now]`: one more moment, `now`
 abbrev pub moment_command : Items → Result Command LineFault
-moment_command members = ok_or (sole_number members) fault.Shape >>= λ now. Ok (MomentAt now)
+moment_command members = ok_or (one_of members) (wrong_count members 1) >>= λ now. (number_in 1 kind.Time now >>= λ n. Ok (MomentAt n))
 
 -- ---- all words
 
 -- the command of a word with these members after it
 abbrev pub drill_command_by : Configuration → List ℕ → Items → Result Command LineFault
 drill_command_by c word members = if bytes_eq word (codes "plugin") then plugin_command c members
-    else (if bytes_eq word (codes "moment") then moment_command members else Err fault.Shape)
+    else (if bytes_eq word (codes "moment") then moment_command members else Err (fault.Shape (shape.UnknownWord vocabulary.Drill)))

@@ -6,6 +6,8 @@ pub mod Streams
 pub mod Line
 pub mod FlatLine
 pub mod Command
+pub mod Request
+pub mod Requested
 pub mod DrillCommand
 pub mod DrillCommanded
 pub mod DrillScript
@@ -14,6 +16,9 @@ pub mod Scripted
 pub mod Agreement
 pub mod Start
 pub mod Text
+pub mod Explanation
+pub mod JsonText
+pub mod Forms
 pub mod LiveText
 pub mod Capacity
 pub mod Output

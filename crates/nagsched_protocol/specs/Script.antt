@@ -1,5 +1,5 @@
 -- The script that an input is: a scheduler's first state and the commands for it, or the first refusal.
-use Rattle.std.specs.Prelude.{ℕ, List, [], ◌∷◌, Option, filter, length, map, not, unwrap_or, Result, Ok, Err, nat_lt, if◌then◌else◌}
+use Rattle.std.specs.Prelude.{ℕ, zero, suc, List, [], ◌∷◌, Option, filter, length, map, not, unwrap_or, Result, Ok, Err, nat_lt, if◌then◌else◌}
 use Rattle.std.specs.List.{enumerate_from}
 use Rattle.serde_json.specs.Data.{Items}
 use Rattle.check_objects.specs.Configuration.{Configuration}
@@ -23,6 +23,7 @@ use Rattle.nagsched_protocol.specs.Command.{command_by}
 use Rattle.nagsched_protocol.specs.Input.{first_line_of, lines_of}
 use Rattle.nagsched_protocol.specs.Line.{is_blank, command_of}
 use Rattle.nagsched_protocol.specs.LiveInput.{rest_after_line}
+use Rattle.nagsched_protocol.specs.Request.{request_by}
 
 -- ---- commands
 
@@ -96,3 +97,32 @@ if_within_limit input says = if nat_lt MAX_INPUT_BYTES (length input) then Err (
 -- the script of an input of `run`, by how the scheduler starts
 unfoldable pub script_of : Start → List ℕ → Result Script InputRefusal
 script_of how input = if_within_limit input (beginning_of how input >>= script_from)
+
+-- ---- requests
+
+-- Whether each line is blank or a request over this setup; otherwise the first refusal. The first line has the number n.
+abbrev pub requests_in : ℕ → Configuration → List ℕ → Result (Unit {0}) InputRefusal
+requests_in n c bytes = commands_of_lines n (request_by c) (lines_of bytes) >>= λ all. Ok tt
+
+abbrev pub requests_over : Start → Configuration → List ℕ → Result (Unit {0}) InputRefusal
+requests_over (start.Fresh moment) c bytes = requests_in 2 c bytes
+requests_over (start.Resumed moment) c bytes =
+    with_saved_refusal (saved_of_text (first_line_of bytes)) >>= λ saved. requests_in 3 c (rest_after_line bytes)
+
+-- whether every line of an input is what it has to be, where requests may have an id; otherwise the first refusal
+unfoldable pub requests_of : Start → List ℕ → Result (Unit {0}) InputRefusal
+requests_of how input = if_within_limit input (with_setup_refusal (setup_of (first_line_of input)) >>= λ c. requests_over how c (rest_after_line input))
+
+-- ---- the refused line
+
+-- the line with this number, counted from 1, or nothing
+abbrev pub line_at : ℕ → List (List ℕ) → List ℕ
+line_at n [] = []
+line_at zero (line ∷ lines) = []
+line_at (suc zero) (line ∷ lines) = line
+line_at (suc (suc n)) (line ∷ lines) = line_at (suc n) lines
+
+-- the bytes of the line that is refused
+abbrev pub refused_bytes : List ℕ → InputRefusal → List ℕ
+refused_bytes input (refusal.Line f n) = line_at n (lines_of input)
+refused_bytes input why = []

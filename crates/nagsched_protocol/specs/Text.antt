@@ -40,19 +40,57 @@ abbrev pub time_text : Option ℕ → List ℕ
 time_text (Some time) = decimal time
 time_text None = codes "none"
 
+-- ---- what answers contain
+
+-- A field of an answer. Its name is that of a member in JSON; words have no names.
+pub data Field : Type 0 where
+  -- a number
+  number_field : List ℕ → ℕ → Field
+  -- a time in milliseconds, if there is one
+  time_field : List ℕ → Option ℕ → Field
+  -- a text
+  text_field : List ℕ → List ℕ → Field
+  -- true or false, and the word for it
+  flag_field : List ℕ → Bool → List ℕ → Field
+  -- the code and the name of a refusal, with a space between them
+  refusal_field : List ℕ → Field
+
+-- an answer: its kind and its fields, in their order
+pub record Answer : Type 0 where
+  pub kind : List ℕ
+  pub fields : List Field
+
+-- a field in words
+abbrev pub field_words : Field → List ℕ
+field_words (number_field name n) = decimal n
+field_words (time_field name time) = time_text time
+field_words (text_field name text) = text
+field_words (flag_field name flag word) = word
+field_words (refusal_field reason) = reason
+
+-- these fields in words, with a space between two of them
+abbrev pub words_from : Field → List Field → List ℕ
+words_from f [] = field_words f
+words_from f (g ∷ gs) = field_words f ++ (codes " " ++ words_from g gs)
+
+-- the fields after the kind
+abbrev pub words_after_kind : List Field → List ℕ
+words_after_kind [] = []
+words_after_kind (f ∷ fs) = codes " " ++ words_from f fs
+
+-- an answer in words
+abbrev pub answer_words : Answer → List ℕ
+answer_words a = a.kind ++ words_after_kind a.fields
+
 -- ---- replies
 
--- the object with this full name runs under this number
-abbrev pub taken_text : ℕ → List ℕ → List ℕ
-taken_text run name = codes "taken " ++ (decimal run ++ (codes " " ++ name))
+-- the full name of an object
+abbrev pub name_field : List ℕ → Field
+name_field name = text_field (codes "name") name
 
--- the object with this full name was due, but was put off to this time, if it is checked again
-abbrev pub put_off_text : Option ℕ → List ℕ → List ℕ
-put_off_text until name = codes "putoff " ++ (time_text until ++ (codes " " ++ name))
-
--- nothing is due, and this is the time of the next check, if there is one
-abbrev pub idle_text : Option ℕ → List ℕ
-idle_text next = codes "idle " ++ time_text next
+-- the time of the next check, if there is one
+abbrev pub next_field : Option ℕ → Field
+next_field next = time_field (codes "next_check") next
 
 -- the state of an object, or PENDING if it was never checked
 abbrev pub state_text : Standing → List ℕ
@@ -63,19 +101,30 @@ abbrev pub changed_word : Bool → List ℕ
 changed_word true = codes "yes"
 changed_word false = codes "no"
 
+abbrev pub state_field : Standing → Field
+state_field s = text_field (codes "state") (state_text s)
+
+abbrev pub kind_field : Standing → Field
+kind_field s = text_field (codes "kind") (kind_word s.kind)
+
+abbrev pub attempt_field : Standing → Field
+attempt_field s = number_field (codes "attempt") s.attempt
+
+abbrev pub flapping_field : Standing → Field
+flapping_field s = flag_field (codes "flapping") s.flapping (flapping_word s.flapping)
+
+abbrev pub changed_field : Bool → Field
+changed_field changed = flag_field (codes "changed") changed (changed_word changed)
+
 -- the standing of the object with this full name, and the time of its next check
+abbrev pub standing_answer : Standing → Bool → Option ℕ → List ℕ → Answer
+standing_answer s changed next name = record {
+  kind = codes "standing";
+  fields = state_field s ∷ kind_field s ∷ attempt_field s ∷ changed_field changed ∷ flapping_field s ∷ next_field next ∷ name_field name ∷ [];
+}
+
 abbrev pub standing_text : Standing → Bool → Option ℕ → List ℕ → List ℕ
-standing_text s changed next name = codes "standing " ++ (state_text s ++ (codes " " ++ (kind_word s.kind ++ (codes " " ++
-    (decimal s.attempt ++ (codes " " ++ (changed_word changed ++ (codes " " ++ (flapping_word s.flapping ++ (codes " " ++
-    (time_text next ++ (codes " " ++ name))))))))))))
-
--- the check of the object with this full name was abandoned, and this is the time of its next one
-abbrev pub freed_text : ℕ → List ℕ → List ℕ
-freed_text next name = codes "freed " ++ (decimal next ++ (codes " " ++ name))
-
--- the request for the object with this full name was carried out
-abbrev pub done_text : List ℕ → List ℕ
-done_text name = codes "done " ++ name
+standing_text s changed next name = answer_words (standing_answer s changed next name)
 
 -- the full name of the object that a call asks for, or nothing if it asks for no object
 abbrev pub asked_name : Configuration → Call → List ℕ
@@ -98,16 +147,21 @@ call_refusal_text refused.NotRunning = codes "C3 NotRunning"
 call_refusal_text refused.WrongRun = codes "C4 WrongRun"
 call_refusal_text refused.RunsSpent = codes "C5 RunsSpent"
 
--- The text of the reply to a call. The object is named by its full name: the one of the reply, or else of the call.
+-- The answer to a call, by its reply. The object is named by its full name: the one of the reply, or else of the call.
+abbrev pub answer_of : Configuration → Call → Reply → Answer
+answer_of c asked (reply.Taken object run) =
+    record { kind = codes "taken"; fields = number_field (codes "run") run ∷ name_field (name_of c object) ∷ [] }
+answer_of c asked (reply.PutOff object until) = record { kind = codes "putoff"; fields = next_field until ∷ name_field (name_of c object) ∷ [] }
+answer_of c asked (reply.Idle next) = record { kind = codes "idle"; fields = next_field next ∷ [] }
+answer_of c asked reply.AtLimit = record { kind = codes "atlimit"; fields = [] }
+answer_of c asked (reply.Standing standing changed next) = standing_answer standing changed next (asked_name c asked)
+answer_of c asked (reply.Freed next) = record { kind = codes "freed"; fields = next_field (Some next) ∷ name_field (asked_name c asked) ∷ [] }
+answer_of c asked reply.Done = record { kind = codes "done"; fields = name_field (asked_name c asked) ∷ [] }
+answer_of c asked (reply.Refused why) = record { kind = codes "refused"; fields = refusal_field (call_refusal_text why) ∷ [] }
+
+-- the text of the reply to a call, in words
 abbrev pub reply_text : Configuration → Call → Reply → List ℕ
-reply_text c asked (reply.Taken object run) = taken_text run (name_of c object)
-reply_text c asked (reply.PutOff object until) = put_off_text until (name_of c object)
-reply_text c asked (reply.Idle next) = idle_text next
-reply_text c asked reply.AtLimit = codes "atlimit"
-reply_text c asked (reply.Standing standing changed next) = standing_text standing changed next (asked_name c asked)
-reply_text c asked (reply.Freed next) = freed_text next (asked_name c asked)
-reply_text c asked reply.Done = done_text (asked_name c asked)
-reply_text c asked (reply.Refused why) = refused_text (call_refusal_text why)
+reply_text c asked r = answer_words (answer_of c asked r)
 
 abbrev pub reply_line : Configuration → Call → Reply → List ℕ
 reply_line c asked r = line_of (reply_text c asked r)
@@ -131,25 +185,38 @@ with_place reason (Some p) = reason ++ (codes " " ++ document_place_text p)
 abbrev pub load_error_text : LoadError → List ℕ
 load_error_text e = with_place (error_reason e) (place_of e)
 
--- The fault of a saved state. Out of memory isn't a fault of it, and is never the refusal of an input.
+-- The code and the name of the fault of a saved state. Out of memory isn't a fault of it, and is never the refusal of an input.
+abbrev pub saved_fault_reason : SavedFault → List ℕ
+saved_fault_reason saved.TooLong = codes "K1 TooLong"
+saved_fault_reason saved.NotJson = codes "K2 NotJson"
+saved_fault_reason saved.Version = codes "K3 Version"
+saved_fault_reason (saved.Shape index) = codes "K4 Shape"
+saved_fault_reason saved.TooMany = codes "K5 TooMany"
+saved_fault_reason (saved.BadName index) = codes "K6 BadName"
+saved_fault_reason (saved.Duplicate index) = codes "K7 Duplicate"
+saved_fault_reason (saved.Range index) = codes "K8 Range"
+saved_fault_reason (saved.Unlawful index) = codes "K9 Unlawful"
+saved_fault_reason saved.Memory = codes "Memory"
+
+-- the saved object that has the fault, if it is one object's
+abbrev pub saved_fault_index : SavedFault → Option ℕ
+saved_fault_index (saved.Shape index) = index
+saved_fault_index (saved.BadName index) = Some index
+saved_fault_index (saved.Duplicate index) = Some index
+saved_fault_index (saved.Range index) = index
+saved_fault_index (saved.Unlawful index) = Some index
+saved_fault_index e = None
+
+-- the fault of a saved state
 abbrev pub saved_fault_text : SavedFault → List ℕ
-saved_fault_text saved.TooLong = codes "K1 TooLong"
-saved_fault_text saved.NotJson = codes "K2 NotJson"
-saved_fault_text saved.Version = codes "K3 Version"
-saved_fault_text (saved.Shape index) = codes "K4 Shape" ++ index_text index
-saved_fault_text saved.TooMany = codes "K5 TooMany"
-saved_fault_text (saved.BadName index) = codes "K6 BadName" ++ index_text (Some index)
-saved_fault_text (saved.Duplicate index) = codes "K7 Duplicate" ++ index_text (Some index)
-saved_fault_text (saved.Range index) = codes "K8 Range" ++ index_text index
-saved_fault_text (saved.Unlawful index) = codes "K9 Unlawful" ++ index_text (Some index)
-saved_fault_text saved.Memory = codes "Memory"
+saved_fault_text e = saved_fault_reason e ++ index_text (saved_fault_index e)
 
 -- the fault of a line of a script
 abbrev pub line_fault_text : LineFault → List ℕ
 line_fault_text fault.TooLong = codes "S1 TooLong"
 line_fault_text fault.NotJson = codes "S2 NotJson"
-line_fault_text fault.Shape = codes "S3 Shape"
-line_fault_text fault.Code = codes "S4 Code"
+line_fault_text (fault.Shape why) = codes "S3 Shape"
+line_fault_text (fault.Code value) = codes "S4 Code"
 line_fault_text fault.UnknownName = codes "S5 UnknownName"
 
 -- why an input is refused, and at which place
@@ -172,13 +239,22 @@ unfoldable pub saved_line : State → List ℕ
 saved_line s = line_of (codes "saved " ++ saved_text (saved_of s))
 
 -- the standing of the object with this full name, the time of its next check, and the number of the run under which it is being checked
+abbrev pub listed_answer : Standing → Option ℕ → Option ℕ → List ℕ → Answer
+listed_answer s next run name = record {
+  kind = codes "object";
+  fields = state_field s ∷ kind_field s ∷ attempt_field s ∷ flapping_field s ∷ next_field next ∷ time_field (codes "run") run ∷ name_field name ∷ [];
+}
+
 abbrev pub listed_text : Standing → Option ℕ → Option ℕ → List ℕ → List ℕ
-listed_text s next run name = codes "object " ++ (state_text s ++ (codes " " ++ (kind_word s.kind ++ (codes " " ++ (decimal s.attempt ++ (codes " " ++
-    (flapping_word s.flapping ++ (codes " " ++ (time_text next ++ (codes " " ++ (time_text run ++ (codes " " ++ name))))))))))))
+listed_text s next run name = answer_words (listed_answer s next run name)
+
+-- the object with this number, in this state
+abbrev pub listed_object : State → ℕ → Answer
+listed_object s number = listed_answer (standing_at s.standings number) (next_of number s) (run_number_of number s) (name_of s.setup number)
 
 -- the line of the object with this number, in this state
 abbrev pub listed_line : State → ℕ → List ℕ
-listed_line s number = line_of (listed_text (standing_at s.standings number) (next_of number s) (run_number_of number s) (name_of s.setup number))
+listed_line s number = line_of (answer_words (listed_object s number))
 
 -- The lines of all objects in this state: the number of objects, and then each object by number.
 unfoldable pub list_lines : State → List ℕ

@@ -1,17 +1,18 @@
 //! The words of `run`: the calls of a script, `save` and `list`. Each word has one function here and one
 //! definition in `specs/Command.antt`.
 
-ghost use Rattle.std.specs.Prelude.{◌≡◌, option_map, Err};
-ghost use Rattle.serde_json.specs.View.{items_view};
+ghost use Rattle.std.specs.Prelude.{◌≡◌, option_map};
+ghost use Rattle.serde_json.specs.View.{view, items_view};
 ghost use Rattle.nagsched_protocol.specs.Command.{command_by, list_command, save_command};
 ghost use Rattle.nagsched_protocol.specs.Command.{call_by, take_call, report_call, abandon_call};
 ghost use Rattle.nagsched_protocol.specs.Command.{reschedule_call, enable_call, status_call};
-ghost use Rattle.nagsched_protocol.specs.Command.{sole_name, name_and_switch, name_and_numbers};
-ghost use Rattle.nagsched_protocol.specs.Command.{name_number_switch, object_named};
+ghost use Rattle.nagsched_protocol.specs.Command.{report_of, abandon_of, reschedule_of, enable_of};
+ghost use Rattle.nagsched_protocol.specs.Command.{one_of, two_of, three_of, object_named};
+ghost use Rattle.nagsched_protocol.specs.Command.{code_in, number_in, switch_in, wrong_count, wrong_kind};
 
 use crate::flat_line::flat_call;
-use crate::line::{Command, ScriptLine, line_refusal};
-use crate::refusal::{LineFault, ScriptError};
+use crate::line::Command;
+use crate::refusal::{CommandError, LineFault, LineShape, ValueKind, Vocabulary};
 use check_objects::Setup;
 use check_sched::Call;
 use check_states::Code;
@@ -46,10 +47,15 @@ impl Command for RunCommand {
         }
     }
 
-    fn read(_alloc: Global, setup: &Setup, line: ScriptLine) -> Result<RunCommand, ScriptError> {
-        match command_by(setup, line.word, line.members) {
+    fn read(
+        _alloc: Global,
+        setup: &Setup,
+        word: &str,
+        members: &[Value],
+    ) -> Result<RunCommand, CommandError> {
+        match command_by(setup, word, members) {
             Ok(command) => Ok(command),
-            Err(fault) => Err(line_refusal(fault, line.number)),
+            Err(fault) => Err(CommandError::Refused(fault)),
         }
     }
 }
@@ -72,7 +78,7 @@ fn save_command(members: &[Value]) -> Result<RunCommand, LineFault>
 {
     match members {
         [] => Ok(RunCommand::Save),
-        _ => Err(LineFault::Shape),
+        _ => Err(wrong_count(members, 0)),
     }
 }
 
@@ -83,7 +89,7 @@ fn list_command(members: &[Value]) -> Result<RunCommand, LineFault>
 {
     match members {
         [] => Ok(RunCommand::List),
-        _ => Err(LineFault::Shape),
+        _ => Err(wrong_count(members, 0)),
     }
 }
 
@@ -99,22 +105,19 @@ fn call_by(setup: &Setup, word: &str, members: &[Value]) -> Result<Call, LineFau
         "reschedule" => reschedule_call(setup, members),
         "enable" => enable_call(setup, members),
         "status" => status_call(setup, members),
-        _ => Err(LineFault::Shape),
+        _ => Err(LineFault::Shape(LineShape::UnknownWord(Vocabulary::Run))),
     }
 }
 
 /// `["take",now]`: the next check to run at the moment `now`, in milliseconds.
-#[tactic(auto, using(crate::proofs::CommandLemmas::take_members))]
 fn take_call(members: &[Value]) -> Result<Call, LineFault>
     ensures { result ≡ take_call (items_view members.now) }
 {
-    match members {
-        [now] => match now.as_u64() {
-            Some(now) => Ok(Call::Take { now }),
-            None => Err(LineFault::Shape),
-        },
-        _ => Err(LineFault::Shape),
-    }
+    let Some(now) = one_of(members) else {
+        return Err(wrong_count(members, 1));
+    };
+    let now = number_in(now, 1, ValueKind::Time)?;
+    Ok(Call::Take { now })
 }
 
 /// `["report",name,run,code]`: the check of the object `name` that runs under the number `run`
@@ -122,12 +125,21 @@ fn take_call(members: &[Value]) -> Result<Call, LineFault>
 fn report_call(setup: &Setup, members: &[Value]) -> Result<Call, LineFault>
     ensures { result ≡ report_call setup.now (items_view members.now) }
 {
-    let Some((name, run, code)) = name_and_numbers(members) else {
-        return Err(LineFault::Shape);
+    match three_of(members) {
+        Some((name, run, code)) => report_of(setup, name, run, code),
+        None => Err(wrong_count(members, 3)),
+    }
+}
+
+/// The report with these values.
+fn report_of(setup: &Setup, name: &Value, run: &Value, code: &Value) -> Result<Call, LineFault>
+    ensures { result ≡ report_of setup.now (view name.now) (view run.now) (view code.now) }
+{
+    let Some(name) = name.as_str() else {
+        return Err(wrong_kind(1, ValueKind::Name));
     };
-    let Some(code) = Code::from_number(code) else {
-        return Err(LineFault::Code);
-    };
+    let run = number_in(run, 2, ValueKind::Run)?;
+    let code = code_in(code, 3)?;
     let object = object_named(setup, name)?;
     Ok(Call::Report { object, run, code })
 }
@@ -137,9 +149,21 @@ fn report_call(setup: &Setup, members: &[Value]) -> Result<Call, LineFault>
 fn abandon_call(setup: &Setup, members: &[Value]) -> Result<Call, LineFault>
     ensures { result ≡ abandon_call setup.now (items_view members.now) }
 {
-    let Some((name, run, now)) = name_and_numbers(members) else {
-        return Err(LineFault::Shape);
+    match three_of(members) {
+        Some((name, run, now)) => abandon_of(setup, name, run, now),
+        None => Err(wrong_count(members, 3)),
+    }
+}
+
+/// The abandonment with these values.
+fn abandon_of(setup: &Setup, name: &Value, run: &Value, now: &Value) -> Result<Call, LineFault>
+    ensures { result ≡ abandon_of setup.now (view name.now) (view run.now) (view now.now) }
+{
+    let Some(name) = name.as_str() else {
+        return Err(wrong_kind(1, ValueKind::Name));
     };
+    let run = number_in(run, 2, ValueKind::Run)?;
+    let now = number_in(now, 3, ValueKind::Time)?;
     let object = object_named(setup, name)?;
     Ok(Call::Abandon { object, run, now })
 }
@@ -149,9 +173,26 @@ fn abandon_call(setup: &Setup, members: &[Value]) -> Result<Call, LineFault>
 fn reschedule_call(setup: &Setup, members: &[Value]) -> Result<Call, LineFault>
     ensures { result ≡ reschedule_call setup.now (items_view members.now) }
 {
-    let Some((name, time, forced)) = name_number_switch(members) else {
-        return Err(LineFault::Shape);
+    match three_of(members) {
+        Some((name, time, forced)) => reschedule_of(setup, name, time, forced),
+        None => Err(wrong_count(members, 3)),
+    }
+}
+
+/// The request for a next check with these values.
+fn reschedule_of(
+    setup: &Setup,
+    name: &Value,
+    time: &Value,
+    forced: &Value,
+) -> Result<Call, LineFault>
+    ensures { result ≡ reschedule_of setup.now (view name.now) (view time.now) (view forced.now) }
+{
+    let Some(name) = name.as_str() else {
+        return Err(wrong_kind(1, ValueKind::Name));
     };
+    let time = number_in(time, 2, ValueKind::Time)?;
+    let forced = switch_in(forced, 3)?;
     let object = object_named(setup, name)?;
     Ok(Call::Reschedule {
         object,
@@ -164,9 +205,20 @@ fn reschedule_call(setup: &Setup, members: &[Value]) -> Result<Call, LineFault>
 fn enable_call(setup: &Setup, members: &[Value]) -> Result<Call, LineFault>
     ensures { result ≡ enable_call setup.now (items_view members.now) }
 {
-    let Some((name, on)) = name_and_switch(members) else {
-        return Err(LineFault::Shape);
+    match two_of(members) {
+        Some((name, on)) => enable_of(setup, name, on),
+        None => Err(wrong_count(members, 2)),
+    }
+}
+
+/// The request to turn active checks on or off with these values.
+fn enable_of(setup: &Setup, name: &Value, on: &Value) -> Result<Call, LineFault>
+    ensures { result ≡ enable_of setup.now (view name.now) (view on.now) }
+{
+    let Some(name) = name.as_str() else {
+        return Err(wrong_kind(1, ValueKind::Name));
     };
+    let on = switch_in(on, 2)?;
     let object = object_named(setup, name)?;
     Ok(Call::Enable { object, on })
 }
@@ -175,58 +227,95 @@ fn enable_call(setup: &Setup, members: &[Value]) -> Result<Call, LineFault>
 fn status_call(setup: &Setup, members: &[Value]) -> Result<Call, LineFault>
     ensures { result ≡ status_call setup.now (items_view members.now) }
 {
-    let Some(name) = sole_name(members) else {
-        return Err(LineFault::Shape);
+    let Some(name) = one_of(members) else {
+        return Err(wrong_count(members, 1));
+    };
+    let Some(name) = name.as_str() else {
+        return Err(wrong_kind(1, ValueKind::Name));
     };
     let object = object_named(setup, name)?;
     Ok(Call::Status { object })
 }
 
-/// Only a name.
+/// The only value.
 #[tactic(auto, using(crate::proofs::CommandLemmas::one_few, crate::proofs::CommandLemmas::one_many))]
-fn sole_name(members: &[Value]) -> Option<&str>
-    ensures { option_map (λ name. name.now) result ≡ sole_name (items_view members.now) }
+pub(crate) fn one_of(members: &[Value]) -> Option<&Value>
+    ensures { option_map (λ v. view v.now) result ≡ one_of (items_view members.now) }
 {
     match members {
-        [name] => name.as_str(),
+        [value] => Some(value),
         _ => None,
     }
 }
 
-/// A name, and true or false.
+/// Two values.
 #[tactic(auto, using(crate::proofs::CommandLemmas::two_few, crate::proofs::CommandLemmas::two_many))]
-fn name_and_switch(members: &[Value]) -> Option<(&str, bool)>
-    ensures { option_map (λ p. (p.0.now, p.1)) result ≡
-        name_and_switch (items_view members.now) }
+fn two_of(members: &[Value]) -> Option<(&Value, &Value)>
+    ensures { option_map (λ p. (view p.0.now, view p.1.now)) result
+        ≡ two_of (items_view members.now) }
 {
     match members {
-        [name, on] => Some((name.as_str()?, on.as_bool()?)),
+        [first, second] => Some((first, second)),
         _ => None,
     }
 }
 
-/// A name and two numbers.
+/// Three values.
 #[tactic(auto, using(crate::proofs::CommandLemmas::three_few, crate::proofs::CommandLemmas::three_many))]
-fn name_and_numbers(members: &[Value]) -> Option<(&str, u64, u64)>
-    ensures { option_map (λ p. (p.0.now, p.1, p.2)) result ≡
-        name_and_numbers (items_view members.now) }
+fn three_of(members: &[Value]) -> Option<(&Value, &Value, &Value)>
+    ensures { option_map (λ p. (view p.0.now, view p.1.now, view p.2.now)) result
+        ≡ three_of (items_view members.now) }
 {
     match members {
-        [name, first, second] => Some((name.as_str()?, first.as_u64()?, second.as_u64()?)),
+        [first, second, third] => Some((first, second, third)),
         _ => None,
     }
 }
 
-/// A name, a number, and true or false.
-#[tactic(auto, using(crate::proofs::CommandLemmas::three_few, crate::proofs::CommandLemmas::three_many))]
-fn name_number_switch(members: &[Value]) -> Option<(&str, u64, bool)>
-    ensures { option_map (λ p. (p.0.now, p.1, p.2)) result ≡
-        name_number_switch (items_view members.now) }
+/// The value with this number, as a number of this kind.
+pub(crate) fn number_in(value: &Value, number: usize, kind: ValueKind) -> Result<u64, LineFault>
+    ensures { result ≡ number_in number kind (view value.now) }
 {
-    match members {
-        [name, number, on] => Some((name.as_str()?, number.as_u64()?, on.as_bool()?)),
-        _ => None,
+    match value.as_u64() {
+        Some(read) => Ok(read),
+        None => Err(wrong_kind(number, kind)),
     }
+}
+
+/// The value with this number, as true or false.
+fn switch_in(value: &Value, number: usize) -> Result<bool, LineFault>
+    ensures { result ≡ switch_in number (view value.now) }
+{
+    match value.as_bool() {
+        Some(on) => Ok(on),
+        None => Err(wrong_kind(number, ValueKind::Switch)),
+    }
+}
+
+/// The value with this number, as a return code.
+pub(crate) fn code_in(value: &Value, number: usize) -> Result<Code, LineFault>
+    ensures { result ≡ code_in number (view value.now) }
+{
+    let digit = number_in(value, number, ValueKind::Code)?;
+    match Code::from_number(digit) {
+        Some(code) => Ok(code),
+        None => Err(LineFault::Code(number)),
+    }
+}
+
+/// The fault that there aren't as many values as there have to be.
+#[tactic(auto, using(crate::proofs::CommandLemmas::values_counted))]
+pub(crate) fn wrong_count(members: &[Value], wanted: usize) -> LineFault
+    ensures { result ≡ wrong_count (items_view members.now) wanted }
+{
+    LineFault::Shape(LineShape::Count(members.len(), wanted))
+}
+
+/// The fault that the value with this number isn't of this kind.
+pub(crate) fn wrong_kind(number: usize, kind: ValueKind) -> LineFault
+    ensures { result ≡ wrong_kind number kind }
+{
+    LineFault::Shape(LineShape::WrongKind(number, kind))
 }
 
 /// The number of the object with this full name.

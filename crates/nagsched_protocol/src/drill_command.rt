@@ -1,25 +1,22 @@
 //! The words of `drill`: the return codes of plugins, and moments. Each word has one function here
 //! and one definition in `specs/DrillCommand.antt`.
 
-ghost use Rattle.std.specs.Prelude.{◌≡◌, IfOk, option_map, is_some};
-ghost use Rattle.std.specs.List.{list_all};
+ghost use Rattle.std.specs.Prelude.{◌≡◌};
 ghost use Rattle.serde_json.specs.View.{view, items_view};
-ghost use Rattle.check_objects.specs.JsonTree.{whole_number};
-ghost use Rattle.nagsched_protocol.specs.Line.{at_line};
-ghost use Rattle.nagsched_protocol.specs.DrillCommand.{plugin_command, moment_command};
-ghost use Rattle.nagsched_protocol.specs.DrillCommand.{name_and_codes, are_nonempty_numbers};
-ghost use Rattle.nagsched_protocol.specs.DrillCommand.{sole_number, code_in, codes_in};
+ghost use Rattle.nagsched_protocol.specs.DrillCommand.{plugin_command, plugin_of, moment_command};
+ghost use Rattle.nagsched_protocol.specs.DrillCommand.{codes_from, first_other};
+ghost use Rattle.nagsched_protocol.specs.Command.{value_count};
 ghost use Rattle.nagsched_protocol.specs.DrillScript.{moment_of};
-ghost use Rattle.nagsched_protocol.specs.Agreement.{IsExpectedResult};
+ghost use Rattle.nagsched_protocol.specs.Agreement.{IsExpectedCommand};
 
-use crate::command::object_named;
-use crate::line::{Command, ScriptLine, line_refusal};
-use crate::refusal::{LineFault, ScriptError};
+use crate::command::{code_in, number_in, object_named, one_of, wrong_count, wrong_kind};
+use crate::line::Command;
+use crate::refusal::{CommandError, LineFault, LineShape, ValueKind, Vocabulary};
 use check_objects::Setup;
 use check_states::Code;
 use json::Scratch;
 use serde_json::Value;
-use std::alloc::{AllocError, Global};
+use std::alloc::Global;
 
 /// A command of a drill.
 #[derive(Drop)]
@@ -45,11 +42,18 @@ impl Command for DrillCommand {
         None
     }
 
-    fn read(alloc: Global, setup: &Setup, line: ScriptLine) -> Result<DrillCommand, ScriptError> {
-        match line.word {
-            "plugin" => DrillCommand::of_plugin(alloc, setup, line.members, line.number),
-            "moment" => DrillCommand::of_moment(line.members, line.number),
-            _ => Err(line_refusal(LineFault::Shape, line.number)),
+    fn read(
+        alloc: Global,
+        setup: &Setup,
+        word: &str,
+        members: &[Value],
+    ) -> Result<DrillCommand, CommandError> {
+        match word {
+            "plugin" => DrillCommand::of_plugin(alloc, setup, members),
+            "moment" => DrillCommand::of_moment(members),
+            _ => Err(CommandError::Refused(LineFault::Shape(LineShape::UnknownWord(
+                Vocabulary::Drill,
+            )))),
         }
     }
 }
@@ -58,35 +62,57 @@ impl DrillCommand {
     ghost use Rattle.nagsched_protocol.specs.DrillCommanded.{drill_command};
 
     /// `["plugin",name,code,..]`: the plugin of the object `name` returns these codes.
+    #[tactic(auto, using(crate::proofs::DrillLemmas::few_values, crate::proofs::DrillLemmas::plugin_values))]
     fn of_plugin(
         alloc: Global,
         setup: &Setup,
         members: &[Value],
-        number: usize,
-    ) -> Result<DrillCommand, ScriptError>
-        ensures { IsExpectedResult drill_command result
-            (at_line number (plugin_command setup.now (items_view members.now))) }
+    ) -> Result<DrillCommand, CommandError>
+        ensures { IsExpectedCommand drill_command result
+            (plugin_command setup.now (items_view members.now)) }
     {
-        let Some((name, returned)) = name_and_codes(members) else {
-            return Err(line_refusal(LineFault::Shape, number));
+        let Some((name, returned)) = members.split_first() else {
+            return Err(too_few(members, 2));
         };
-        let Some(codes) = codes_in(alloc, returned)? else {
-            return Err(line_refusal(LineFault::Code, number));
+        if returned.is_empty() {
+            return Err(too_few(members, 2));
+        }
+        DrillCommand::plugin_of(alloc, setup, name, returned)
+    }
+
+    /// The plugin with these values.
+    fn plugin_of(
+        alloc: Global,
+        setup: &Setup,
+        name: &Value,
+        returned: &[Value],
+    ) -> Result<DrillCommand, CommandError>
+        ensures { IsExpectedCommand drill_command result
+            (plugin_of setup.now (view name.now) (items_view returned.now)) }
+    {
+        let Some(name) = name.as_str() else {
+            return Err(CommandError::Refused(wrong_kind(1, ValueKind::Name)));
         };
+        if let Some(number) = first_other(returned) {
+            return Err(CommandError::Refused(wrong_kind(number, ValueKind::Code)));
+        }
+        let codes = codes_from(alloc, returned)?;
         match object_named(setup, name) {
             Ok(object) => Ok(DrillCommand::Plugin { object, codes }),
-            Err(fault) => Err(line_refusal(fault, number)),
+            Err(fault) => Err(CommandError::Refused(fault)),
         }
     }
 
     /// `["moment",now]`: one more moment, `now`, in milliseconds.
-    fn of_moment(members: &[Value], number: usize) -> Result<DrillCommand, ScriptError>
-        ensures { IsExpectedResult drill_command result
-            (at_line number (moment_command (items_view members.now))) }
+    fn of_moment(members: &[Value]) -> Result<DrillCommand, CommandError>
+        ensures { IsExpectedCommand drill_command result (moment_command (items_view members.now)) }
     {
-        match sole_number(members) {
-            Some(now) => Ok(DrillCommand::Moment { now }),
-            None => Err(line_refusal(LineFault::Shape, number)),
+        let Some(now) = one_of(members) else {
+            return Err(CommandError::Refused(wrong_count(members, 1)));
+        };
+        match number_in(now, 1, ValueKind::Time) {
+            Ok(now) => Ok(DrillCommand::Moment { now }),
+            Err(fault) => Err(CommandError::Refused(fault)),
         }
     }
 
@@ -101,68 +127,35 @@ impl DrillCommand {
     }
 }
 
-/// A name, and after it whole numbers, at least one.
-fn name_and_codes(members: &[Value]) -> Option<(&str, &[Value])>
-    ensures { option_map (λ p. (p.0.now, items_view p.1.now)) result
-        ≡ name_and_codes (items_view members.now) }
+/// The fault that there are fewer values than there have to be.
+#[tactic(auto, using(crate::proofs::CommandLemmas::values_counted))]
+fn too_few(members: &[Value], least: usize) -> CommandError
+    ensures { result ≡ CommandError.Refused (LineFault.Shape
+        (LineShape.TooFew (value_count (items_view members.now)) least)) }
 {
-    match members {
-        [name, returned @ ..] => {
-            if !are_nonempty_numbers(returned) {
-                return None;
-            }
-            Some((name.as_str()?, returned))
+    CommandError::Refused(LineFault::Shape(LineShape::TooFew(members.len(), least)))
+}
+
+/// The number of the first value that isn't a whole number. The first of these values has the number 2.
+fn first_other(values: &[Value]) -> Option<usize>
+    ensures { result ≡ first_other 2 (items_view values.now) }
+{
+    for (index, value) in values.iter().enumerate() {
+        if value.as_u64().is_none() {
+            return Some(index + 2);
         }
-        [] => None,
     }
+    None
 }
 
-/// Whether values are whole numbers, at least one.
-fn are_nonempty_numbers(values: &[Value]) -> bool
-    ensures { result ≡ are_nonempty_numbers (items_view values.now) }
-{
-    match values {
-        [] => false,
-        _ => are_numbers(values),
-    }
-}
-
-/// Whether all values are whole numbers.
-fn are_numbers(values: &[Value]) -> bool
-    ensures { result ≡ list_all (λ value. is_some (whole_number (view value))) values.now }
-{
-    values.iter().all(|value| value.as_u64().is_some())
-}
-
-/// Only a number.
-#[tactic(auto, using(crate::proofs::CommandLemmas::one_few, crate::proofs::CommandLemmas::one_many))]
-fn sole_number(members: &[Value]) -> Option<u64>
-    ensures { result ≡ sole_number (items_view members.now) }
-{
-    match members {
-        [number] => number.as_u64(),
-        _ => None,
-    }
-}
-
-/// The return codes that values are. None if some value isn't a return code.
-fn codes_in(alloc: Global, values: &[Value]) -> Result<Option<Vec<Code>>, AllocError>
-    ensures { IfOk result (λ codes.
-        option_map (λ list. list.items) codes ≡ codes_in (items_view values.now)) }
+/// The return codes that values are. The first of these values has the number 2.
+fn codes_from(alloc: Global, values: &[Value]) -> Result<Vec<Code>, CommandError>
+    ensures { IsExpectedCommand (λ list. list.items) result (codes_from 2 (items_view values.now)) }
 {
     let mut codes = Vec::new(alloc);
-    for value in values {
-        let Some(code) = code_in(value) else {
-            return Ok(None);
-        };
+    for (index, value) in values.iter().enumerate() {
+        let code = code_in(value, index + 2)?;
         codes.push(code)?;
     }
-    Ok(Some(codes))
-}
-
-/// The return code that a value is.
-fn code_in(value: &Value) -> Option<Code>
-    ensures { result ≡ code_in (view value.now) }
-{
-    Code::from_number(value.as_u64()?)
+    Ok(codes)
 }

@@ -4,10 +4,12 @@
 ghost use Rattle.check_objects.specs.Configuration.{Configuration};
 ghost use Rattle.check_saved_state.specs.Saved.{Saved};
 ghost use Rattle.check_sched.specs.Saved.{state_after_resume};
-ghost use Rattle.nagsched_protocol.specs.Command.{command_by};
+ghost use Rattle.nagsched_protocol.specs.Forms.{refusal_text};
 ghost use Rattle.nagsched_protocol.specs.Input.{lines_of};
-ghost use Rattle.nagsched_protocol.specs.LiveInput.{rest_after_line, has_feed, line_meaning_by};
+ghost use Rattle.nagsched_protocol.specs.LiveInput.{rest_after_line, has_feed};
 ghost use Rattle.nagsched_protocol.specs.Script.{Beginning, Script, beginning_of, script_of};
+ghost use Rattle.nagsched_protocol.specs.declared.answer_form.AnswerForm.{AnswerForm};
+ghost use Rattle.nagsched_protocol.specs.declared.answer_form.AnswerForm.TheVariants.{Words};
 ghost use Rattle.nagsched_protocol.specs.declared.input.TheConstants.{MAX_READ_BYTES};
 ghost use Rattle.nagsched_protocol.specs.declared.line.TheConstants.{MAX_LINE_BYTES};
 ghost use Rattle.nagsched_protocol.specs.declared.line_reader.TheConstants.{READ_BYTES, LINE_PREFIX_BYTES, SAVED_PREFIX_BYTES, SETUP_PREFIX_BYTES};
@@ -15,8 +17,8 @@ ghost use Rattle.nagsched_protocol.specs.declared.refusal.InputRefusal.{InputRef
 ghost use Rattle.nagsched_protocol.specs.declared.script.TheConstants.{MAX_INPUT_BYTES};
 ghost use Rattle.nagsched_protocol.specs.declared.start.Start.{Start};
 ghost use Rattle.nagsched_protocol.specs.declared.start.Start.TheVariants.{Resumed};
-ghost use Rattle.nagsched_protocol.specs.LiveText.{BeginsWith, HasStart, live_text};
-ghost use Rattle.nagsched_protocol.specs.Text.{refusal_line, text, text_from};
+ghost use Rattle.nagsched_protocol.specs.LiveText.{BeginsWith, HasStart, line_meaning, live_text};
+ghost use Rattle.nagsched_protocol.specs.Text.{text, text_from};
 ghost use Rattle.nagsched_protocol.specs.declared.text.TheConstants.{REPLY_BYTES};
 ghost use Rattle.std.specs.Prelude.{◌≡◌, ℕ, ◌+◌, ◌++◌, false, List, [], ◌∷◌, Some, None, Ok, Err, length};
 
@@ -41,35 +43,34 @@ pub fn limit_of_a_reply()
     ensures { REPLY_BYTES ≡ 1024 }
 {}
 
-/// On an input that a run accepts, a conversation writes what the run writes.
+/// On an input that a run accepts, a conversation in words writes what the run writes.
 pub fn live_agrees_with_run()
     ensures { (how : Start) → (input : List ℕ) → (script : Script)
-        → script_of how input ≡ Ok script → live_text how input ≡ text how input }
+        → script_of how input ≡ Ok script
+        → live_text Words how input ≡ text how input }
 {}
 
 /// No answer depends on later input. The law speaks of whole lines that contain what the scheduler
 /// starts with. The text that a conversation writes on them is a prefix of its text on them and later
 /// input.
 pub fn live_output_only_grows()
-    ensures { (how : Start) → (front back : List ℕ)
+    ensures { (form : AnswerForm) → (how : Start) → (front back : List ℕ)
         → HasStart how (rest_after_line (front ++ 10 ∷ [])) → (rest : List ℕ)
-        × (live_text how ((front ++ 10 ∷ []) ++ back)
-        ≡ live_text how (front ++ 10 ∷ []) ++ rest) }
+        × (live_text form how ((front ++ 10 ∷ []) ++ back)
+        ≡ live_text form how (front ++ 10 ∷ []) ++ rest) }
 {}
 
-/// If an empty line replaces a refused one, a conversation writes the same except for the line of that
-/// refusal. `front` contains what the scheduler starts with and the lines before the refused one, each
+/// If an empty line replaces a refused one, a conversation writes the same except for that refusal. `front` contains what the scheduler starts with and the lines before the refused one, each
 /// with its line feed, except for the last one's.
 pub fn live_skips_refused_lines()
-    ensures { (how : Start) → (beginning : Beginning) → (front line back : List ℕ)
+    ensures { (form : AnswerForm) → (how : Start) → (beginning : Beginning) → (front line back : List ℕ)
         → (why : InputRefusal) → HasStart how (rest_after_line (front ++ 10 ∷ []))
         → beginning_of how (front ++ 10 ∷ []) ≡ Ok beginning → has_feed line ≡ false
-        → line_meaning_by (command_by beginning.state.setup) (length (lines_of (front ++ 10 ∷ [])) + 1) line
-        ≡ Err why
+        → line_meaning form beginning.state.setup (length (lines_of (front ++ 10 ∷ [])) + 1) line ≡ Err why
         → (before behind : List ℕ)
-        × (live_text how ((front ++ 10 ∷ []) ++ (line ++ 10 ∷ back))
-        ≡ before ++ (refusal_line why ++ behind))
-        × (live_text how ((front ++ 10 ∷ []) ++ (10 ∷ back)) ≡ before ++ behind) }
+        × (live_text form how ((front ++ 10 ∷ []) ++ (line ++ 10 ∷ back))
+        ≡ before ++ (refusal_text form line why ++ behind))
+        × (live_text form how ((front ++ 10 ∷ []) ++ (10 ∷ back)) ≡ before ++ behind) }
 {}
 
 /// A run that continues from a saved state, at the moment `start`, carries out its commands on the

@@ -7,18 +7,17 @@ ghost use Rattle.serde_json.specs.View.{view, items_view};
 ghost use Rattle.check_objects.specs.Configuration.{Configuration};
 ghost use Rattle.check_objects.specs.JsonTree.{tree_of};
 ghost use Rattle.nagsched_protocol.specs.declared.refusal.LineFault.{LineFault};
-ghost use Rattle.nagsched_protocol.specs.Line.{is_blank, word_and_members, word_and_members_in};
-ghost use Rattle.nagsched_protocol.specs.Line.{at_line, command_in, command_of};
-ghost use Rattle.nagsched_protocol.specs.Agreement.{IsExpectedResult};
+ghost use Rattle.nagsched_protocol.specs.Line.{is_blank, command_in, command_in_items, command_of};
+ghost use Rattle.nagsched_protocol.specs.Agreement.{IsExpectedCommand, IsExpectedResult};
 
-use crate::refusal::{InputRefusal, LineFault, ScriptError};
+use crate::refusal::{CommandError, InputRefusal, LineFault, LineShape, ScriptError};
 use check_objects::Setup;
 use json::Scratch;
 use serde_json::Value;
 use std::alloc::Global;
 
 /// The most bytes that a line may have without its line feed.
-const MAX_LINE_BYTES: usize = 4096;
+pub(crate) const MAX_LINE_BYTES: usize = 4096;
 
 /// A command of a vocabulary. An implementation names a command as the definitions see it (`Seen`,
 /// `seen`). It also names the meaning of a word with the members after it over a setup (`meaning`).
@@ -34,23 +33,17 @@ pub trait Command: Drop {
         ensures { IfSome result (λ command.
             option_map (command_in (meaning setup.now)) (tree_of line.now) ≡ Some (Ok (seen command))) };
 
-    /// The command of a line, or its first fault. The faults are, in order: another shape, a return code
-    /// above 3, a name that the setup doesn't have. Out of memory is an error of its own.
-    fn read(alloc: Global, setup: &Setup, line: ScriptLine) -> Result<Self, ScriptError>
-        ensures { IsExpectedResult seen result
-            (at_line line.entry.number
-            (meaning setup.now line.entry.word.now (items_view line.entry.members.now))) };
-}
-
-/// A line of a script that is an array and begins with a word.
-#[derive(Clone, Copy)]
-pub struct ScriptLine<'a> {
-    /// The number of the line in its input, by which a fault is reported.
-    pub number: usize,
-    /// The word that the line begins with.
-    pub word: &'a str,
-    /// The members of the array after the word.
-    pub members: &'a [Value],
+    /// The command of a word with these members after it, or the first fault. The faults are, in order:
+    /// another shape, a return code above 3, a name that the setup doesn't have. Out of memory is an error
+    /// of its own.
+    fn read(
+        alloc: Global,
+        setup: &Setup,
+        word: &str,
+        members: &[Value],
+    ) -> Result<Self, CommandError>
+        ensures { IsExpectedCommand seen result
+            (meaning setup.now word.now (items_view members.now)) };
 }
 
 /// Whether a line has only spaces, tabs and carriage returns, or nothing. Such a line is skipped.
@@ -80,17 +73,10 @@ pub fn read_command<C: Command>(
         return Ok(command);
     }
     let tree = read_tree(alloc, line, number)?;
-    match word_and_members(&tree) {
-        Some((word, members)) => C::read(
-            alloc,
-            setup,
-            ScriptLine {
-                number,
-                word,
-                members,
-            },
-        ),
-        None => Err(line_refusal(LineFault::Shape, number)),
+    match command_in(alloc, setup, &tree) {
+        Ok(command) => Ok(command),
+        Err(CommandError::Refused(fault)) => Err(line_refusal(fault, number)),
+        Err(CommandError::Memory) => Err(ScriptError::Memory),
     }
 }
 
@@ -110,28 +96,31 @@ fn read_tree(alloc: Global, line: &[u8], number: usize) -> Result<Value, ScriptE
     }
 }
 
-/// The word of a tree that is an array, and the members after it.
-fn word_and_members(tree: &Value) -> Option<(&str, &[Value])>
-    ensures { option_map (λ p. (p.0.now, items_view p.1.now)) result
-        ≡ word_and_members (view tree.now) }
+/// The command that a tree is, or its first fault.
+fn command_in<C: Command>(alloc: Global, setup: &Setup, tree: &Value) -> Result<C, CommandError>
+    ensures { IsExpectedCommand C.seen result (command_in (C.meaning setup.now) (view tree.now)) }
 {
     match tree.as_array() {
-        Some(items) => word_and_members_in(items),
-        None => None,
+        Some(items) => command_in_items(alloc, setup, items),
+        None => Err(CommandError::Refused(LineFault::Shape(LineShape::NotAnArray))),
     }
 }
 
-/// The word of an array, and the members after it.
-fn word_and_members_in(items: &[Value]) -> Option<(&str, &[Value])>
-    ensures { option_map (λ p. (p.0.now, items_view p.1.now)) result
-        ≡ word_and_members_in (items_view items.now) }
+/// The command that the items of an array are, or its first fault.
+fn command_in_items<C: Command>(
+    alloc: Global,
+    setup: &Setup,
+    items: &[Value],
+) -> Result<C, CommandError>
+    ensures { IsExpectedCommand C.seen result
+        (command_in_items (C.meaning setup.now) (items_view items.now)) }
 {
     match items {
         [word, members @ ..] => match word.as_str() {
-            Some(word) => Some((word, members)),
-            None => None,
+            Some(word) => C::read(alloc, setup, word, members),
+            None => Err(CommandError::Refused(LineFault::Shape(LineShape::NoWord))),
         },
-        [] => None,
+        [] => Err(CommandError::Refused(LineFault::Shape(LineShape::Empty))),
     }
 }
 

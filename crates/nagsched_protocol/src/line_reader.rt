@@ -9,12 +9,17 @@ ghost use Rattle.nagsched_protocol.specs.Input.{first_line_of};
 ghost use Rattle.nagsched_protocol.specs.LiveError.{IsReadingError, IsInputError};
 ghost use Rattle.nagsched_protocol.specs.LiveInput.{LinePrefix, IsBoundedReading, TookLine, rest_after_line, prefix_of, has_feed, line_meaning_by};
 ghost use Rattle.nagsched_protocol.specs.Agreement.{IsExpectedResult};
+ghost use Rattle.nagsched_protocol.specs.LiveText.{line_meaning};
+ghost use Rattle.nagsched_protocol.specs.Requested.{request};
 
+use crate::answer_form::AnswerForm;
+use crate::command::RunCommand;
 use crate::input::line_end;
 use crate::line::{Command, is_blank, read_command};
 use crate::live_error::LiveError;
 use crate::reader::ask_reader;
 use crate::refusal::ScriptError;
+use crate::request::Request;
 use check_objects::Setup;
 use json::Scratch;
 use std::alloc::{AllocError, Global};
@@ -235,4 +240,28 @@ pub fn read_buffered<C: Command>(
         return Ok(None);
     }
     Ok(Some(read_command(alloc, setup, line.bytes(), number, scratch)?))
+}
+
+/// The request of a line that was taken, or its refusal. In JSON it may have an id. A blank line has no
+/// request.
+pub fn read_request(
+    alloc: Global,
+    form: AnswerForm,
+    setup: &Setup,
+    line: &LineBuffer,
+    number: usize,
+    scratch: &mut Scratch,
+) -> Result<Option<Request>, ScriptError>
+    ensures { (text : List ℕ) → line.now ≡ prefix_of LINE_PREFIX_BYTES text
+        → IsExpectedResult (option_map request) result (line_meaning form setup.now number text) }
+{
+    match form {
+        AnswerForm::Json => read_buffered::<Request>(alloc, setup, line, number, scratch),
+        AnswerForm::Words | AnswerForm::Explained => {
+            match read_buffered::<RunCommand>(alloc, setup, line, number, scratch)? {
+                Some(command) => Ok(Some(Request { command, id: None })),
+                None => Ok(None),
+            }
+        }
+    }
 }

@@ -1,19 +1,27 @@
 //! Gives bytes to a writer: a text, the line of a refusal or of a saved state, the lines of all objects,
-//! and the flush at the end. The modules `text`, `refusal_text` and `listing` make the lines.
+//! and the flush at the end. The modules `text`, `refusal_text`, `listing` and `json_text` make the lines.
 
-ghost use Rattle.std.specs.Prelude.{OnOk, OnErr, IsOkUnless};
+ghost use Rattle.std.specs.Prelude.{◌≡◌, ◌++◌, IfOk, OnOk, OnErr, IsOkUnless};
 ghost use Rattle.std.specs.Io.KnownBytes.{Appends, Keeps};
 ghost use Rattle.nagsched_protocol.specs.Output.{WroteFront};
-ghost use Rattle.nagsched_protocol.specs.Text.{list_lines, refusal_line, saved_line};
+ghost use Rattle.nagsched_protocol.specs.Explanation.{sentence};
+ghost use Rattle.nagsched_protocol.specs.Forms.{explained_line, refusal_text};
+ghost use Rattle.nagsched_protocol.specs.Requested.{head_id};
+ghost use Rattle.nagsched_protocol.specs.JsonText.{json_answer_line, json_list_line, json_saved_line};
+ghost use Rattle.nagsched_protocol.specs.Text.{answer_of, list_lines, refusal_line, saved_line};
 ghost use Rattle.nagsched_protocol.specs.Written.{IsLineWritten};
 
+use crate::answer_form::AnswerForm;
 use crate::drive_error::DriveError;
+use crate::explanation::explain_refusal;
+use crate::json_text::{Head, json_list_line, json_refusal_line, json_reply_line, json_saved_line};
 use crate::listing::list_lines;
 use crate::refusal::InputRefusal;
 use crate::refusal_text::push_refusal;
 use crate::text::saved_line;
-use check_sched::Sched;
-use std::alloc::Global;
+use check_objects::Setup;
+use check_sched::{Call, Reply, Sched};
+use std::alloc::{AllocError, Global};
 use std::io::Write;
 
 /// Writes all of the text, or up to a fault the prefix that the writer took.
@@ -76,6 +84,114 @@ pub fn write_list<W: Write>(alloc: Global, sched: &Sched, writer: &mut W) -> Res
 {
     let lines = list_lines(alloc, sched)?;
     write_text(writer, lines.as_bytes())
+}
+
+/// Writes a refusal in this form. `line` has the bytes of the refused line. Nothing is flushed. The error is
+/// `Write`, and a prefix of the refusal was written then, or `Memory`, and nothing was written.
+#[tactic(auto, using(crate::proofs::WrittenLemmas::line_written, crate::proofs::WrittenLemmas::line_unwritten))]
+pub fn refuse_as<W: Write>(
+    alloc: Global,
+    form: AnswerForm,
+    line: &[u8],
+    refusal: InputRefusal,
+    writer: &mut W,
+) -> Result<(), DriveError>
+    ensures { IsLineWritten result (W.contents writer.old) (W.contents writer.new)
+        (refusal_text form line.now refusal) }
+{
+    let text = refusal_text(alloc, form, line, refusal)?;
+    write_text(writer, &text)
+}
+
+/// The refusal in this form.
+fn refusal_text(
+    alloc: Global,
+    form: AnswerForm,
+    line: &[u8],
+    refusal: InputRefusal,
+) -> Result<Vec<u8>, AllocError>
+    ensures { IfOk result (λ text. text.items ≡ refusal_text form line.now refusal) }
+{
+    match form {
+        AnswerForm::Words => words_of_refusal(alloc, refusal),
+        AnswerForm::Explained => explained_refusal(alloc, line, refusal),
+        AnswerForm::Json => json_refusal_line(alloc, line, refusal),
+    }
+}
+
+/// The line of a refusal.
+fn words_of_refusal(alloc: Global, refusal: InputRefusal) -> Result<Vec<u8>, AllocError>
+    ensures { IfOk result (λ text. text.items ≡ refusal_line refusal) }
+{
+    let mut text = String::new(alloc);
+    push_refusal(&mut text, refusal)?;
+    Ok(text.into_bytes())
+}
+
+/// The line of a refusal, and the line that explains it.
+fn explained_refusal(
+    alloc: Global,
+    line: &[u8],
+    refusal: InputRefusal,
+) -> Result<Vec<u8>, AllocError>
+    ensures { IfOk result (λ text. text.items
+        ≡ refusal_line refusal ++ explained_line (sentence line.now refusal)) }
+{
+    let explanation = explain_refusal(alloc, line, refusal)?;
+    let mut text = String::new(alloc);
+    push_refusal(&mut text, refusal)?;
+    text.push_str("explained ")?;
+    text.push_str(explanation.as_str())?;
+    text.push_str("\n")?;
+    Ok(text.into_bytes())
+}
+
+/// Writes the line of the reply to a call as JSON. Nothing is flushed. The error is `Write`, and a prefix of
+/// the line was written then, or `Memory`, and nothing was written.
+#[tactic(auto, using(crate::proofs::WrittenLemmas::line_written, crate::proofs::WrittenLemmas::line_unwritten))]
+pub fn write_json_reply<W: Write>(
+    alloc: Global,
+    head: Head,
+    setup: &Setup,
+    call: Call,
+    reply: Reply,
+    writer: &mut W,
+) -> Result<(), DriveError>
+    ensures { IsLineWritten result (W.contents writer.old) (W.contents writer.new)
+        (json_answer_line head.entry.line (head_id head.entry) (answer_of setup.now call reply)) }
+{
+    let text = json_reply_line(alloc, head, setup, call, reply)?;
+    write_text(writer, &text)
+}
+
+/// Writes the line of a scheduler's saved state as JSON, like [`write_saved`].
+#[tactic(auto, using(crate::proofs::WrittenLemmas::line_written, crate::proofs::WrittenLemmas::line_unwritten))]
+pub fn write_json_saved<W: Write>(
+    alloc: Global,
+    head: Head,
+    sched: &Sched,
+    writer: &mut W,
+) -> Result<(), DriveError>
+    ensures { IsLineWritten result (W.contents writer.old) (W.contents writer.new)
+        (json_saved_line head.entry.line (head_id head.entry) sched.now) }
+{
+    let text = json_saved_line(alloc, head, sched)?;
+    write_text(writer, &text)
+}
+
+/// Writes the line of all objects as JSON, like [`write_list`].
+#[tactic(auto, using(crate::proofs::WrittenLemmas::line_written, crate::proofs::WrittenLemmas::line_unwritten))]
+pub fn write_json_list<W: Write>(
+    alloc: Global,
+    head: Head,
+    sched: &Sched,
+    writer: &mut W,
+) -> Result<(), DriveError>
+    ensures { IsLineWritten result (W.contents writer.old) (W.contents writer.new)
+        (json_list_line head.entry.line (head_id head.entry) sched.now) }
+{
+    let text = json_list_line(alloc, head, sched)?;
+    write_text(writer, &text)
 }
 
 /// Writes a text and flushes it. The error is `Write`, and a prefix of the text was written then.

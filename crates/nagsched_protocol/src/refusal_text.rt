@@ -1,7 +1,7 @@
 //! The text of the refusal of an input.
 
 ghost use Rattle.std.specs.Prelude.{◌≡◌, ◌++◌, OnOk, string_bytes};
-ghost use Rattle.nagsched_protocol.specs.Text.{line_fault_text, refusal_line};
+ghost use Rattle.nagsched_protocol.specs.Text.{line_fault_text, refusal_line, saved_fault_index, saved_fault_reason};
 
 use crate::refusal::{InputRefusal, LineFault};
 use crate::text::Pushed;
@@ -48,14 +48,14 @@ impl fmt::Display for RefusalText {
 }
 
 /// The fault of a line.
-fn line_fault_text(fault: LineFault) -> &'static str
+pub(crate) fn line_fault_text(fault: LineFault) -> &'static str
     ensures { result.now ≡ line_fault_text fault }
 {
     match fault {
         LineFault::TooLong => "S1 TooLong",
         LineFault::NotJson => "S2 NotJson",
-        LineFault::Shape => "S3 Shape",
-        LineFault::Code => "S4 Code",
+        LineFault::Shape(_) => "S3 Shape",
+        LineFault::Code(_) => "S4 Code",
         LineFault::UnknownName => "S5 UnknownName",
     }
 }
@@ -91,20 +91,41 @@ impl fmt::Display for SavedText {
     ghost output = { λ e. Some (saved_fault_text e.0) };
 
     fn fmt<W: fmt::Write>(&self, f: &mut fmt::Formatter<W>) -> fmt::Result {
-        match self.0 {
-            SavedFault::TooLong => f.write_str("K1 TooLong"),
-            SavedFault::NotJson => f.write_str("K2 NotJson"),
-            SavedFault::Version => f.write_str("K3 Version"),
-            SavedFault::Shape(Some(index)) => write!(f, "K4 Shape {index}"),
-            SavedFault::Shape(None) => f.write_str("K4 Shape"),
-            SavedFault::TooMany => f.write_str("K5 TooMany"),
-            SavedFault::BadName(index) => write!(f, "K6 BadName {index}"),
-            SavedFault::Duplicate(index) => write!(f, "K7 Duplicate {index}"),
-            SavedFault::Range(Some(index)) => write!(f, "K8 Range {index}"),
-            SavedFault::Range(None) => f.write_str("K8 Range"),
-            SavedFault::Unlawful(index) => write!(f, "K9 Unlawful {index}"),
-            SavedFault::Memory => f.write_str("Memory"),
+        let reason = saved_reason(self.0);
+        match saved_index(self.0) {
+            Some(index) => write!(f, "{reason} {index}"),
+            None => f.write_str(reason),
         }
+    }
+}
+
+/// The code and the name of the fault of a saved state.
+pub(crate) fn saved_reason(fault: SavedFault) -> &'static str
+    ensures { result.now ≡ saved_fault_reason fault }
+{
+    match fault {
+        SavedFault::TooLong => "K1 TooLong",
+        SavedFault::NotJson => "K2 NotJson",
+        SavedFault::Version => "K3 Version",
+        SavedFault::Shape(_) => "K4 Shape",
+        SavedFault::TooMany => "K5 TooMany",
+        SavedFault::BadName(_) => "K6 BadName",
+        SavedFault::Duplicate(_) => "K7 Duplicate",
+        SavedFault::Range(_) => "K8 Range",
+        SavedFault::Unlawful(_) => "K9 Unlawful",
+        SavedFault::Memory => "Memory",
+    }
+}
+
+/// The saved object that has the fault, if it is one object's.
+pub(crate) fn saved_index(fault: SavedFault) -> Option<usize>
+    ensures { result ≡ saved_fault_index fault }
+{
+    match fault {
+        SavedFault::Shape(index) | SavedFault::Range(index) => index,
+        SavedFault::BadName(index) | SavedFault::Duplicate(index) | SavedFault::Unlawful(index) =>
+            Some(index),
+        _ => None,
     }
 }
 

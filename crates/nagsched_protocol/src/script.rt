@@ -1,11 +1,12 @@
 //! The script of an input. Line 1 is the setup document, and line 2 a saved state if the scheduler
 //! starts from one. Each later line that isn't blank is one command.
 
-ghost use Rattle.std.specs.Prelude.{◌≤◌, length, map};
+ghost use Rattle.std.specs.Prelude.{◌≡◌, ◌≤◌, length, map};
 ghost use Rattle.check_objects.specs.Setup.{setup_of};
 ghost use Rattle.check_saved_state.specs.Text.{saved_of_text};
 ghost use Rattle.nagsched_protocol.specs.Agreement.{IsExpectedResult};
 ghost use Rattle.nagsched_protocol.specs.Input.{lines_of};
+ghost use Rattle.nagsched_protocol.specs.Script.{line_at, refused_bytes, requests_in, requests_of, requests_over};
 ghost use Rattle.nagsched_protocol.specs.Script.{commands_of_lines, with_saved_refusal, with_setup_refusal, script_from, script_of, script_over};
 ghost use Rattle.nagsched_protocol.specs.Start.{CanStart};
 
@@ -13,6 +14,7 @@ use crate::command::RunCommand;
 use crate::input::{Lines, split_line};
 use crate::line::{Command, is_blank, line_refusal, read_command};
 use crate::refusal::{InputRefusal, LineFault, ScriptError};
+use crate::request::Request;
 use crate::start::{Start, open, resume};
 use check_objects::{LoadError, Setup};
 use check_saved_state::{Saved, SavedFault};
@@ -133,4 +135,68 @@ pub(crate) fn read_commands<C: Command>(
         number += 1;
     }
     Ok(commands)
+}
+
+/// Tests every line of an input whose requests may have an id, or returns its first refusal. The tests are
+/// those of [`Script::read`], in the same order.
+#[tactic(auto, unfolding(crate::specs::Script::requests_of))]
+pub fn test_requests(alloc: Global, start: Start, input: &[u8]) -> Result<(), ScriptError>
+    ensures { IsExpectedResult (λ u. u) result (requests_of start input.now) }
+{
+    if input.len() > MAX_INPUT_BYTES {
+        return Err(line_refusal(LineFault::TooLong, 0));
+    }
+    let (document, rest) = split_line(input);
+    let setup = read_setup(alloc, document)?;
+    test_behind(alloc, start, &setup, rest)
+}
+
+/// Tests the lines after the setup document.
+fn test_behind(alloc: Global, start: Start, setup: &Setup, bytes: &[u8]) -> Result<(), ScriptError>
+    requires bounded { length bytes.now ≤ MAX_INPUT_BYTES }
+    ensures { IsExpectedResult (λ u. u) result (requests_over start setup.now bytes.now) }
+{
+    match start {
+        Start::Fresh(_) => test_lines(alloc, setup, bytes, 2),
+        Start::Resumed(_) => {
+            let (text, rest) = split_line(bytes);
+            let _saved = read_saved(alloc, text)?;
+            test_lines(alloc, setup, rest, 3)
+        }
+    }
+}
+
+/// Tests the lines of these bytes. The first line has this number.
+fn test_lines(alloc: Global, setup: &Setup, bytes: &[u8], first: usize) -> Result<(), ScriptError>
+    requires bounded { length bytes.now ≤ MAX_INPUT_BYTES }
+    requires first { first ≤ 3 }
+    ensures { IsExpectedResult (λ u. u) result (requests_in first setup.now bytes.now) }
+{
+    let _requests = read_commands::<Request>(alloc, setup, bytes, first)?;
+    Ok(())
+}
+
+/// The bytes of the line that is refused. Of a refused setup or saved state, and of an input that is too
+/// long, there are none.
+pub fn refused_bytes(input: &[u8], refusal: InputRefusal) -> &[u8]
+    ensures { result.now ≡ refused_bytes input.now refusal }
+{
+    match refusal {
+        InputRefusal::Line { line, .. } => line_at(input, line),
+        _ => &[],
+    }
+}
+
+/// The line with this number, counted from 1, or no byte if there is none.
+fn line_at(input: &[u8], number: usize) -> &[u8]
+    ensures { result.now ≡ line_at number (lines_of input.now) }
+{
+    let mut left = number;
+    for line in Lines::new(input) {
+        if left <= 1 {
+            return if left == 1 { line } else { &[] };
+        }
+        left -= 1;
+    }
+    &[]
 }

@@ -4,7 +4,7 @@
 ghost use Rattle.std.specs.Prelude.{◌≡◌, ◌+◌, ◌≤◌, ◌++◌, IfOk, OnOk, codes, decimal, length, string_bytes};
 ghost use Rattle.check_objects.specs.Configuration.{name_of};
 ghost use Rattle.nagsched_protocol.specs.Text.{reply_text, reply_line, entry_line, total_line, saved_line};
-ghost use Rattle.nagsched_protocol.specs.Text.{idle_text, standing_text, time_text, call_refusal_text};
+ghost use Rattle.nagsched_protocol.specs.Text.{standing_text, time_text, call_refusal_text};
 ghost use Rattle.nagsched_protocol.specs.Text.{asked_name, state_text, changed_word};
 ghost use Rattle.check_saved_state.specs.Words.{flapping_word};
 ghost use Rattle.nagsched_protocol.specs.Capacity.{PushesAtMost};
@@ -80,7 +80,7 @@ fn push_timed(line: &mut String, word: &str, time: Option<u64>, name: &str) -> P
 
 /// Appends that nothing is due.
 fn push_idle(line: &mut String, next: Option<u64>) -> Pushed
-    ensures text { OnOk result (string_bytes line.new ≡ string_bytes line.old ++ idle_text next) }
+    ensures text { OnOk result (string_bytes line.new ≡ string_bytes line.old ++ (codes "idle " ++ time_text next)) }
     ensures capacity { PushesAtMost 64 result line.old line.new }
 {
     line.push_str("idle ")?;
@@ -152,7 +152,7 @@ fn push_time(line: &mut String, time: Option<u64>) -> Pushed
 }
 
 /// The full name of the object that a call asks for, or nothing if it asks for no object.
-fn asked_name(setup: &Setup, call: Call) -> &str
+pub(crate) fn asked_name(setup: &Setup, call: Call) -> &str
     ensures text { result.now ≡ asked_name setup.now call }
     ensures bounded { length result.now ≤ 511 }
 {
@@ -168,7 +168,7 @@ fn asked_name(setup: &Setup, call: Call) -> &str
 
 /// The full name of an object, or nothing if the setup has no object of this number.
 #[tactic(auto, using(crate::proofs::NameLengthLemmas::name_short))]
-fn name_or_empty(setup: &Setup, number: u32) -> &str
+pub(crate) fn name_or_empty(setup: &Setup, number: u32) -> &str
     ensures text { result.now ≡ name_of setup.now number }
     ensures bounded { length result.now ≤ 511 }
 {
@@ -249,7 +249,7 @@ pub(crate) fn saved_line(alloc: Global, sched: &Sched) -> Result<Vec<u8>, AllocE
 }
 
 /// Why a call was refused. A refused call has changed nothing.
-fn call_refusal_text(refusal: Refusal) -> &'static str
+pub(crate) fn call_refusal_text(refusal: Refusal) -> &'static str
     ensures text { result.now ≡ call_refusal_text refusal }
     ensures bounded { length result.now ≤ 16 }
 {

@@ -4,7 +4,7 @@
 //! [`explain`] explains in plain words why a document is refused: the place of the fault, the name of the
 //! object there, the member at fault, and the reason. [`compact_document`] writes a document as the one line that a
 //! run and a conversation read. [`json_schema`] writes the JSON schema of a document, from the table of its
-//! members.
+//! members. A [`Line`] also serves other explanations.
 //!
 //! The modules:
 //! - `line`: a line that never gets a line feed;
@@ -30,4 +30,5 @@ mod shapes;
 
 pub use document_line::compact_document;
 pub use explanation::explain;
+pub use line::{Line, Pushed};
 pub use schema::json_schema;

@@ -14,11 +14,11 @@ use std::marker::Model;
 const MAX_EXCERPT_CHARS: usize = 80;
 
 /// The outcome of appending to a text. An Err means out of memory, and a part may have been appended.
-pub(crate) type Pushed = Result<(), AllocError>;
+pub type Pushed = Result<(), AllocError>;
 
 /// A line of text without a line feed. Contracts see its bytes.
 #[derive(Drop)]
-pub(crate) struct Line {
+pub struct Line {
     text: String,
 }
 
@@ -35,7 +35,7 @@ impl Model for Line {
 
 impl Line {
     /// An empty line.
-    pub(crate) fn new(alloc: Global) -> Line
+    pub fn new(alloc: Global) -> Line
         ensures { result ≡ [] }
     {
         Line {
@@ -44,7 +44,7 @@ impl Line {
     }
 
     /// The text of the line.
-    pub(crate) fn into_text(self) -> String
+    pub fn into_text(self) -> String
         ensures text { string_bytes result ≡ self }
         ensures line { HasNoLineFeed (string_bytes result) }
     {
@@ -52,7 +52,7 @@ impl Line {
     }
 
     /// Appends words without a line feed.
-    pub(crate) fn push_words(&mut self, words: &str) -> Pushed
+    pub fn push_words(&mut self, words: &str) -> Pushed
         requires { has_line_feed words.now ≡ false }
         ensures text { OnOk result (self.new ≡ self.old ++ words.now) }
     {
@@ -69,7 +69,7 @@ impl Line {
 
     /// Appends a number in decimal.
     #[tactic(auto, using(crate::proofs::FeedLemmas::number_flat))]
-    pub(crate) fn push_number(&mut self, number: u64) -> Pushed
+    pub fn push_number(&mut self, number: u64) -> Pushed
         ensures text { OnOk result (self.new ≡ self.old ++ decimal number) }
     {
         let mut buffer = Buffer::new();
@@ -77,7 +77,7 @@ impl Line {
     }
 
     /// Appends a text of the document as a JSON string, cut after 80 characters.
-    pub(crate) fn push_text(&mut self, text: &str) -> Pushed
+    pub fn push_text(&mut self, text: &str) -> Pushed
         ensures text { OnOk result (self.new ≡ self.old ++ quotation text.now) }
     {
         self.push_words("\"")?;
@@ -86,7 +86,7 @@ impl Line {
     }
 
     /// Appends the role of a name, and the name, if there is one.
-    pub(crate) fn push_name(&mut self, role: &str, name: Option<&str>) -> Pushed
+    pub fn push_name(&mut self, role: &str, name: Option<&str>) -> Pushed
         requires { has_line_feed role.now ≡ false }
         ensures text { OnOk result (self.new
             ≡ self.old ++ role_text role.now (option_map (λ name. name.now) name.entry)) }
@@ -101,7 +101,7 @@ impl Line {
     }
 
     /// Appends a text, escaped as in a JSON string. If it has more than 80 characters, dots replace the rest.
-    pub(crate) fn push_excerpt(&mut self, text: &str) -> Pushed
+    pub fn push_excerpt(&mut self, text: &str) -> Pushed
         ensures text { OnOk result (self.new ≡ self.old ++ excerpt text.now) }
     {
         let mut left = text.chars();
