@@ -14,6 +14,7 @@ use Rattle.check_saved_state.specs.Text.{saved_of_text}
 use Rattle.check_saved_state.specs.declared.fault.SavedFault.{SavedFault}
 use Rattle.check_saved_state.specs.declared.fault.SavedFault.TheVariants as faults
 use Rattle.nagsched_protocol.specs.Agreement.{IsExpectedResult}
+use Rattle.nagsched_protocol.specs.declared.answer_form.AnswerForm.{AnswerForm}
 use Rattle.nagsched_protocol.specs.declared.drive_error.DriveError.{DriveError}
 use Rattle.nagsched_protocol.specs.declared.live_error.LiveError.{LiveError}
 use Rattle.nagsched_protocol.specs.declared.live_error.LiveError.TheVariants as live
@@ -34,7 +35,7 @@ use Rattle.nagsched_protocol.proofs.LiveInputLemmas.{Consumes-none, Consumes-the
 use Rattle.nagsched_protocol.proofs.ScriptLemmas.{length-lines_of}
 use Rattle.nagsched_protocol.proofs.OutputLemmas.{Appends-none}
 use Rattle.nagsched_protocol.specs.LiveText.{answers_from, answers_over, live_text}
-use Rattle.nagsched_protocol.specs.Text.{refusal_line}
+use Rattle.nagsched_protocol.specs.Forms.{refusal_text}
 use Rattle.nagsched_protocol.specs.declared.outcome.Outcome.{Outcome}
 use Rattle.nagsched_protocol.specs.declared.outcome.Outcome.TheVariants as outcome
 use Rattle.nagsched_protocol.specs.Streams.{IsInput, outcome_by}
@@ -82,11 +83,11 @@ over_refused : (moment : Option ℕ) (c : Configuration) (bytes : List ℕ) (why
     → beginning_over (start.Resumed moment) c bytes ≡ Err why
 over_refused moment c bytes why s = ap (from_saved moment c bytes) s
 
-none_text : (moment : Option ℕ) (c : Configuration) (saved : Saved) (bytes : List ℕ) → saved_at_start bytes ≡ Ok saved → has_feed bytes ≡ false
-    → answers_over (beginning_over (start.Resumed moment) c bytes) ≡ []
-none_text moment c saved bytes s free =
-    ap (λ r. answers_over (from_saved moment c bytes r)) s
-    ∙ ap (λ l. answers_from (state_after_resume_at c saved moment) 3 (lines_of l)) (behind_none bytes free)
+none_text : (form : AnswerForm) (moment : Option ℕ) (c : Configuration) (saved : Saved) (bytes : List ℕ) → saved_at_start bytes ≡ Ok saved → has_feed bytes ≡ false
+    → answers_over form (beginning_over (start.Resumed moment) c bytes) ≡ []
+none_text form moment c saved bytes s free =
+    ap (λ r. answers_over form (from_saved moment c bytes r)) s
+    ∙ ap (λ l. answers_from form (state_after_resume_at c saved moment) 3 (lines_of l)) (behind_none bytes free)
 
 saved_stays : (bytes more : List ℕ) → has_feed bytes ≡ true → saved_at_start (bytes ++ more) ≡ saved_at_start bytes
 saved_stays bytes more feed = ap (λ l. with_saved_refusal (saved_of_text l)) (first_stays bytes more feed)
@@ -107,12 +108,12 @@ pub saved_ends : (bytes : List ℕ) (saved : Saved) (left : Option (List ℕ)) (
     → (follow ≡ false → IsAtEnd left ⊎ (SAVED_PREFIX_BYTES ≤ length bytes)) → follow ≡ false → IsAtEnd left
 saved_ends bytes saved left follow s feed ended f = ends_at bytes saved left s (sym feed ∙ f) (ended f)
 
-on_text : (moment : Option ℕ) (c : Configuration) (saved : Saved) (bytes more : List ℕ) → saved_at_start bytes ≡ Ok saved → has_feed bytes ≡ true
-    → answers_over (beginning_over (start.Resumed moment) c (bytes ++ more))
-    ≡ answers_from (state_after_resume_at c saved moment) 3 (lines_of (rest_after_line bytes ++ more))
-on_text moment c saved bytes more s feed =
-    ap (λ r. answers_over (from_saved moment c (bytes ++ more) r)) (saved_stays bytes more feed ∙ s)
-    ∙ ap (λ l. answers_from (state_after_resume_at c saved moment) 3 (lines_of l)) (behind_stays bytes more feed)
+on_text : (form : AnswerForm) (moment : Option ℕ) (c : Configuration) (saved : Saved) (bytes more : List ℕ) → saved_at_start bytes ≡ Ok saved → has_feed bytes ≡ true
+    → answers_over form (beginning_over (start.Resumed moment) c (bytes ++ more))
+    ≡ answers_from form (state_after_resume_at c saved moment) 3 (lines_of (rest_after_line bytes ++ more))
+on_text form moment c saved bytes more s feed =
+    ap (λ r. answers_over form (from_saved moment c (bytes ++ more) r)) (saved_stays bytes more feed ∙ s)
+    ∙ ap (λ l. answers_from form (state_after_resume_at c saved moment) 3 (lines_of l)) (behind_stays bytes more feed)
 
 -- no line feed came where nothing may follow
 never_follows : (may_follow : Bool) (hand part : List ℕ) (had : Option (List ℕ)) → (may_follow ≡ false → part ≡ [])
@@ -132,32 +133,32 @@ never_long may_follow hand part had none end long f =
 -- ---- behind a setup
 
 -- an error before anything was written, where these bytes come
-gone_by : (how : Start) (c : Configuration) (may_follow : Bool) (hand coming : List ℕ) (e : LiveError) (had left held holds : Option (List ℕ))
-    → IsInput had coming → (may_follow ≡ false → coming ≡ []) → Keeps held holds → IsContinuation how c may_follow hand (Err e) (streams had left held holds)
-gone_by how c may_follow hand coming e had left held holds input none kept =
+gone_by : {form : AnswerForm} (how : Start) (c : Configuration) (may_follow : Bool) (hand coming : List ℕ) (e : LiveError) (had left held holds : Option (List ℕ))
+    → IsInput had coming → (may_follow ≡ false → coming ≡ []) → Keeps held holds → IsContinuation form how c may_follow hand (Err e) (streams had left held holds)
+gone_by {form = form} how c may_follow hand coming e had left held holds input none kept =
     record { coming = coming; is_input = input; short = none; outcome_is = tt; written = tt; read = tt; fault = leaves_kept (drive_error_of e) held holds _ kept }
 
-pub gone_unwritten : (how : Start) (c : Configuration) (may_follow : Bool) (hand part : List ℕ) (e : LiveError) (had left held holds : Option (List ℕ))
+pub gone_unwritten : {form : AnswerForm} (how : Start) (c : Configuration) (may_follow : Bool) (hand part : List ℕ) (e : LiveError) (had left held holds : Option (List ℕ))
     → Consumes had left part → (may_follow ≡ false → (hand ≡ []) × IsAtEnd had) → Keeps held holds
-    → IsContinuation how c may_follow hand (Err e) (streams had left held holds)
-gone_unwritten how c true hand part e had left held holds read end kept =
+    → IsContinuation form how c may_follow hand (Err e) (streams had left held holds)
+gone_unwritten {form = form} how c true hand part e had left held holds read end kept =
     gone_by how c true hand (part ++ rest_of left) e had left held holds (input_on had left part (rest_of left) read (rest_input left)) (λ f. cc) kept
-gone_unwritten how c false hand part e had left held holds read end kept =
+gone_unwritten {form = form} how c false hand part e had left held holds read end kept =
     gone_by how c false hand [] e had left held holds (end_input had (end refl).1) (λ f. refl) kept
 
 -- an error before any line was answered
-pub unanswered : (begins : ℕ) (first : State) (hand : List ℕ) (e : LiveError) (had held : Option (List ℕ))
-    → AnsweringEnded {T = Outcome} begins first hand (streams had had held held) (Err e)
-unanswered begins first hand e had held =
+pub unanswered : (form : AnswerForm) (begins : ℕ) (first : State) (hand : List ℕ) (e : LiveError) (had held : Option (List ℕ))
+    → AnsweringEnded {T = Outcome} form begins first hand (streams had had held held) (Err e)
+unanswered form begins first hand e had held =
     (rest_of had, rest_input had, tt, tt, leaves_kept (drive_error_of e) held held _ (Keeps-same held))
 
 -- what is shown of the lines behind a setup from whose start on a scheduler is spoken to is what is shown of all behind it
-pub gone_opened : (moment : ℕ) (c : Configuration) (may_follow : Bool) (hand : List ℕ) (had left held holds : Option (List ℕ)) (r : Result Outcome LiveError)
+pub gone_opened : {form : AnswerForm} (moment : ℕ) (c : Configuration) (may_follow : Bool) (hand : List ℕ) (had left held holds : Option (List ℕ)) (r : Result Outcome LiveError)
     → (may_follow ≡ false → (hand ≡ []) × IsAtEnd had) → IfOk r (λ o. o ≡ outcome.Ran)
     → (may_follow ≡ false → (r ≡ Ok outcome.Ran) × (left ≡ had) × (holds ≡ held))
-    → (may_follow ≡ true → AnsweringEnded 2 (opening c moment) hand (streams had left held holds) r)
-    → IsContinuation (start.Fresh moment) c may_follow hand r (streams had left held holds)
-gone_opened moment c false hand had left held holds r end ran unread lines =
+    → (may_follow ≡ true → AnsweringEnded form 2 (opening c moment) hand (streams had left held holds) r)
+    → IsContinuation form (start.Fresh moment) c may_follow hand r (streams had left held holds)
+gone_opened {form = form} moment c false hand had left held holds r end ran unread lines =
     let n = unread refl in
     let none = end refl in
     rw (n.0, n.1, n.2, none.0)
@@ -170,7 +171,7 @@ gone_opened moment c false hand had left held holds r end ran unread lines =
       read = Consumes-none had;
       fault = tt;
     })
-gone_opened moment c true hand had left held holds r end ran unread lines =
+gone_opened {form = form} moment c true hand had left held holds r end ran unread lines =
     let t = lines refl in
     record { coming = t.0; is_input = t.1; short = λ f. cc; outcome_is = ran; written = t.3; read = t.2; fault = t.4 }
 
@@ -210,16 +211,16 @@ refuses may_follow true hand part had left why s read none end feed ended =
 refuses may_follow false hand part had left why s read none end feed ended =
     refuses_by may_follow hand part had left why s read none end (sym feed) (ended refl)
 
-gone_refused_by : (moment : Option ℕ) (c : Configuration) (may_follow : Bool) (hand part : List ℕ) (had left held holds : Option (List ℕ))
+gone_refused_by : {form : AnswerForm} (moment : Option ℕ) (c : Configuration) (may_follow : Bool) (hand part : List ℕ) (had left held holds : Option (List ℕ))
     (why : InputRefusal) (wrote : Result Outcome DriveError) (r : Result Outcome LiveError)
     → Refuses may_follow hand had left why → Consumes had left part → IsBoundedReading SAVED_PREFIX_BYTES (hand ++ part)
-    → IfOk wrote (λ o. o ≡ outcome.Refused) → OnOk wrote (Appends held holds (refusal_line why))
-    → IfErr wrote (λ e. LeavesText e held holds (refusal_line why)) → IsWriteResult r wrote
-    → IsContinuation (start.Resumed moment) c may_follow hand r (streams had left held holds)
-gone_refused_by moment c may_follow hand part had left held holds why wrote r z read soon refused written fault w =
-    let line = refusal_line why in
+    → IfOk wrote (λ o. o ≡ outcome.Refused) → OnOk wrote (Appends held holds (refusal_text form [] why))
+    → IfErr wrote (λ e. LeavesText e held holds (refusal_text form [] why)) → IsWriteResult r wrote
+    → IsContinuation form (start.Resumed moment) c may_follow hand r (streams had left held holds)
+gone_refused_by {form = form} moment c may_follow hand part had left held holds why wrote r z read soon refused written fault w =
+    let line = refusal_text form [] why in
     let over = sym (over_refused moment c (hand ++ z.coming) why z.refused) in
-    let text = ap answers_over over in
+    let text = ap (answers_over form) over in
     record {
       coming = z.coming;
       is_input = z.is_input;
@@ -231,30 +232,30 @@ gone_refused_by moment c may_follow hand part had left held holds why wrote r z 
     }
 
 -- what is shown of the refusal of what was saved is what is shown of all behind the setup
-pub gone_refused : (moment : Option ℕ) (c : Configuration) (may_follow follow : Bool) (hand part : List ℕ) (had left held holds : Option (List ℕ))
+pub gone_refused : {form : AnswerForm} (moment : Option ℕ) (c : Configuration) (may_follow follow : Bool) (hand part : List ℕ) (had left held holds : Option (List ℕ))
     (why : InputRefusal) (wrote : Result Outcome DriveError) (r : Result Outcome LiveError)
     → saved_at_start (hand ++ part) ≡ Err why → Consumes had left part → (may_follow ≡ false → part ≡ [])
     → IsBoundedReading SAVED_PREFIX_BYTES (hand ++ part) → (may_follow ≡ false → (hand ≡ []) × IsAtEnd had) → follow ≡ has_feed (hand ++ part)
     → (follow ≡ false → IsAtEnd left ⊎ (SAVED_PREFIX_BYTES ≤ length (hand ++ part)))
-    → IfOk wrote (λ o. o ≡ outcome.Refused) → OnOk wrote (Appends held holds (refusal_line why))
-    → IfErr wrote (λ e. LeavesText e held holds (refusal_line why)) → IsWriteResult r wrote
-    → IsContinuation (start.Resumed moment) c may_follow hand r (streams had left held holds)
-gone_refused moment c may_follow follow hand part had left held holds why wrote r s read none soon end feed ended refused written fault w =
+    → IfOk wrote (λ o. o ≡ outcome.Refused) → OnOk wrote (Appends held holds (refusal_text form [] why))
+    → IfErr wrote (λ e. LeavesText e held holds (refusal_text form [] why)) → IsWriteResult r wrote
+    → IsContinuation form (start.Resumed moment) c may_follow hand r (streams had left held holds)
+gone_refused {form = form} moment c may_follow follow hand part had left held holds why wrote r s read none soon end feed ended refused written fault w =
     gone_refused_by moment c may_follow hand part had left held holds why wrote r
     (refuses may_follow follow hand part had left why s read none end feed ended) read soon refused written fault w
 
 -- what is shown of the lines behind what was saved is what is shown of all behind the setup
-pub gone_answered : (moment : Option ℕ) (c : Configuration) (saved : Saved) (may_follow follow : Bool) (hand part : List ℕ)
+pub gone_answered : {form : AnswerForm} (moment : Option ℕ) (c : Configuration) (saved : Saved) (may_follow follow : Bool) (hand part : List ℕ)
     (had mid left held holds : Option (List ℕ)) (r : Result Outcome LiveError)
     → saved_at_start (hand ++ part) ≡ Ok saved → Consumes had mid part → (may_follow ≡ false → part ≡ [])
     → (may_follow ≡ false → (hand ≡ []) × IsAtEnd had) → follow ≡ has_feed (hand ++ part) → (follow ≡ false → IsAtEnd mid)
     → IfOk r (λ o. o ≡ outcome.Ran)
     → (follow ≡ false → IfErr r (λ e. e ≡ live.Memory) × (left ≡ mid) × (holds ≡ held))
-    → (follow ≡ true → AnsweringEnded 3 (state_after_resume_at c saved moment) (rest_after_line (hand ++ part)) (streams mid left held holds) r)
-    → IsContinuation (start.Resumed moment) c may_follow hand r (streams had left held holds)
-gone_answered moment c saved may_follow false hand part had mid left held holds (Ok o) s read none end feed ended ran unread lines =
+    → (follow ≡ true → AnsweringEnded form 3 (state_after_resume_at c saved moment) (rest_after_line (hand ++ part)) (streams mid left held holds) r)
+    → IsContinuation form (start.Resumed moment) c may_follow hand r (streams had left held holds)
+gone_answered {form = form} moment c saved may_follow false hand part had mid left held holds (Ok o) s read none end feed ended ran unread lines =
     let n = unread refl in
-    let text = none_text moment c saved (hand ++ part) s (sym feed) in
+    let text = none_text form moment c saved (hand ++ part) s (sym feed) in
     rw (ran, n.1, n.2)
     (record {
       coming = part;
@@ -265,14 +266,14 @@ gone_answered moment c saved may_follow false hand part had mid left held holds 
       read = subst (λ q. ReadOver (λ bytes_read. hand ++ bytes_read) (from_saved moment c (hand ++ part) q) had mid part) (sym s) read;
       fault = tt;
     })
-gone_answered moment c saved may_follow false hand part had mid left held holds (Err e) s read none end feed ended ran unread lines =
+gone_answered {form = form} moment c saved may_follow false hand part had mid left held holds (Err e) s read none end feed ended ran unread lines =
     let n = unread refl in
     rw (n.1, n.2) (gone_unwritten (start.Resumed moment) c may_follow hand part e had mid held held read end (Keeps-same held))
-gone_answered moment c saved may_follow true hand part had mid left held holds (Ok o) s read none end feed ended ran unread lines =
+gone_answered {form = form} moment c saved may_follow true hand part had mid left held holds (Ok o) s read none end feed ended ran unread lines =
     let t = lines refl in
     let bytes = append_assoc hand part t.0 in
     let stays = ap saved_at_start (sym bytes) ∙ saved_stays (hand ++ part) t.0 (sym feed) ∙ s in
-    let text = ap (λ l. answers_over (beginning_over (start.Resumed moment) c l)) (sym bytes) ∙ on_text moment c saved (hand ++ part) t.0 s (sym feed) in
+    let text = ap (λ l. answers_over form (beginning_over (start.Resumed moment) c l)) (sym bytes) ∙ on_text form moment c saved (hand ++ part) t.0 s (sym feed) in
     record {
       coming = part ++ t.0;
       is_input = input_on had mid part t.0 read t.1;
@@ -282,9 +283,9 @@ gone_answered moment c saved may_follow true hand part had mid left held holds (
       read = subst (λ q. ReadOver (λ bytes_read. hand ++ bytes_read) (from_saved moment c (hand ++ (part ++ t.0)) q) had left (part ++ t.0)) (sym stays) (Consumes-then had mid left part t.0 read t.2);
       fault = tt;
     }
-gone_answered moment c saved may_follow true hand part had mid left held holds (Err e) s read none end feed ended ran unread lines =
+gone_answered {form = form} moment c saved may_follow true hand part had mid left held holds (Err e) s read none end feed ended ran unread lines =
     let t = lines refl in
-    let text = ap (λ l. answers_over (beginning_over (start.Resumed moment) c l)) (sym (append_assoc hand part t.0)) ∙ on_text moment c saved (hand ++ part) t.0 s (sym feed) in
+    let text = ap (λ l. answers_over form (beginning_over (start.Resumed moment) c l)) (sym (append_assoc hand part t.0)) ∙ on_text form moment c saved (hand ++ part) t.0 s (sym feed) in
     record {
       coming = part ++ t.0;
       is_input = input_on had mid part t.0 read t.1;
@@ -333,9 +334,9 @@ live_over : (how : Start) (c : Configuration) (input behind : List ℕ) → setu
     → beginning_of how input ≡ beginning_over how c behind
 live_over how c input behind s b = ap (λ r. with_setup_refusal r >>= λ d. beginning_over how d (rest_after_line input)) s ∙ ap (beginning_over how c) b
 
-text_over : (how : Start) (input : List ℕ) (r : Result Beginning InputRefusal) → beginning_of how input ≡ r → live_text how input ≡ answers_over r
+text_over : (form : AnswerForm) (how : Start) (input : List ℕ) (r : Result Beginning InputRefusal) → beginning_of how input ≡ r → live_text form how input ≡ answers_over form r
 unfolding live_text
-text_over how input r e = ap answers_over e
+text_over form how input r e = ap (answers_over form) e
 
 live_read : (how : Start) (c : Configuration) (bytes_read coming : List ℕ) (had mid left : Option (List ℕ)) (whole : Bool) → whole ≡ has_feed bytes_read
     → setup_of (first_line_of (bytes_read ++ coming)) ≡ Ok c → rest_after_line (bytes_read ++ coming) ≡ rest_after_line bytes_read ++ coming → Consumes had mid bytes_read
@@ -347,11 +348,11 @@ live_read how c bytes_read coming had mid left whole feed s b read later =
     (read_behind (beginning_over how c (rest_after_line bytes_read ++ coming)) had mid left bytes_read coming whole feed read later))
 
 -- what is shown of all behind a setup is what is shown of the whole
-pub whole_gone : (how : Start) (c : Configuration) (bytes_read : List ℕ) (had mid left held holds : Option (List ℕ)) (whole : Bool)
+pub whole_gone : {form : AnswerForm} (how : Start) (c : Configuration) (bytes_read : List ℕ) (had mid left held holds : Option (List ℕ)) (whole : Bool)
     (r : Result Outcome LiveError)
     → with_setup_refusal (setup_of (first_line_of bytes_read)) ≡ Ok c → whole ≡ has_feed bytes_read → Consumes had mid bytes_read
-    → IsContinuation how c whole (rest_after_line bytes_read) r (streams mid left held holds) → ConversationEnded how (drive_result_of r) (streams had left held holds)
-whole_gone how c bytes_read had mid left held holds whole (Ok o) s feed read w =
+    → IsContinuation form how c whole (rest_after_line bytes_read) r (streams mid left held holds) → ConversationEnded form how (drive_result_of r) (streams had left held holds)
+whole_gone {form = form} how c bytes_read had mid left held holds whole (Ok o) s feed read w =
     let input = bytes_read ++ w.coming in
     let parts = parts_stay bytes_read w.coming whole feed w.short in
     let setup = ap setup_of parts.0 ∙ setup_is (setup_of (first_line_of bytes_read)) c s in
@@ -360,17 +361,17 @@ whole_gone how c bytes_read had mid left held holds whole (Ok o) s feed read w =
       input = input;
       is_input = input_on had mid bytes_read w.coming read w.is_input;
       outcome_is = w.outcome_is ∙ sym (ap outcome_by over);
-      written = subst (Appends held holds) (sym (text_over how input _ over)) w.written;
+      written = subst (Appends held holds) (sym (text_over form how input _ over)) w.written;
       read = live_read how c bytes_read w.coming had mid left whole feed setup parts.1 read w.read;
       fault = tt;
     }
-whole_gone how c bytes_read had mid left held holds whole (Err e) s feed read w =
+whole_gone {form = form} how c bytes_read had mid left held holds whole (Err e) s feed read w =
     let input = bytes_read ++ w.coming in
     let parts = parts_stay bytes_read w.coming whole feed w.short in
     let setup = ap setup_of parts.0 ∙ setup_is (setup_of (first_line_of bytes_read)) c s in
     let over = live_over how c input (rest_after_line bytes_read ++ w.coming) setup parts.1 in
     live_failed how (drive_error_of e) had left held holds input
-    (input_on had mid bytes_read w.coming read w.is_input) (subst (LeavesText (drive_error_of e) held holds) (sym (text_over how input _ over)) w.fault)
+    (input_on had mid bytes_read w.coming read w.is_input) (subst (LeavesText (drive_error_of e) held holds) (sym (text_over form how input _ over)) w.fault)
 
 -- ---- a refused setup
 
@@ -383,13 +384,13 @@ refusal_read : (how : Start) (input bytes_read : List ℕ) (e : LoadError) (had 
 refusal_read how input bytes_read e had left s read soon = rw s (bytes_read, read, soon)
 
 -- what is shown of a setup's refusal is what is shown of the whole
-pub setup_refusal : (how : Start) (bytes_read : List ℕ) (had left held holds : Option (List ℕ)) (why : InputRefusal) (whole : Bool)
+pub setup_refusal : {form : AnswerForm} (how : Start) (bytes_read : List ℕ) (had left held holds : Option (List ℕ)) (why : InputRefusal) (whole : Bool)
     (r : Result Outcome DriveError)
     → with_setup_refusal (setup_of (first_line_of bytes_read)) ≡ Err why → Consumes had left bytes_read → IsBoundedReading SETUP_PREFIX_BYTES bytes_read → whole ≡ has_feed bytes_read
     → (whole ≡ false → IsAtEnd left ⊎ (SETUP_PREFIX_BYTES ≤ length bytes_read)) → IfOk r (λ o. o ≡ outcome.Refused)
-    → OnOk r (Appends held holds (refusal_line why)) → IfErr r (λ e. LeavesText e held holds (refusal_line why))
-    → ConversationEnded how r (streams had left held holds)
-setup_refusal how bytes_read had left held holds why whole (Ok o) s read soon feed end refused wrote f =
+    → OnOk r (Appends held holds (refusal_text form [] why)) → IfErr r (λ e. LeavesText e held holds (refusal_text form [] why))
+    → ConversationEnded form how r (streams had left held holds)
+setup_refusal {form = form} how bytes_read had left held holds why whole (Ok o) s read soon feed end refused wrote f =
     let no = setup_refused (setup_of (first_line_of bytes_read)) why s in
     let input = bytes_read ++ rest_of left in
     let setup = refused_stays bytes_read left whole feed end ∙ no.1 in
@@ -398,17 +399,17 @@ setup_refusal how bytes_read had left held holds why whole (Ok o) s read soon fe
       input = input;
       is_input = input_on had left bytes_read (rest_of left) read (rest_input left);
       outcome_is = refused ∙ sym (ap outcome_by over);
-      written = subst (Appends held holds) (ap refusal_line no.2 ∙ sym (text_over how input _ over)) wrote;
+      written = subst (Appends held holds) (ap (refusal_text form []) no.2 ∙ sym (text_over form how input _ over)) wrote;
       read = refusal_read how input bytes_read no.0 had left setup read soon;
       fault = tt;
     }
-setup_refusal how bytes_read had left held holds why whole (Err e) s read soon feed end refused wrote f =
+setup_refusal {form = form} how bytes_read had left held holds why whole (Err e) s read soon feed end refused wrote f =
     let no = setup_refused (setup_of (first_line_of bytes_read)) why s in
     let input = bytes_read ++ rest_of left in
     let over = begins_refused how input no.0 (refused_stays bytes_read left whole feed end ∙ no.1) in
     live_failed how e had left held holds input
     (input_on had left bytes_read (rest_of left) read (rest_input left))
-    (subst (LeavesText e held holds) (ap refusal_line no.2 ∙ sym (text_over how input _ over)) f)
+    (subst (LeavesText e held holds) (ap (refusal_text form []) no.2 ∙ sym (text_over form how input _ over)) f)
 
 -- ---- a loop that is spent
 
@@ -416,24 +417,24 @@ pub memory_later : (e : LiveError) (hand : List ℕ) (had left : Option (List �
 memory_later e hand had left is = λ s. absurd (subst IsSpent is s)
 
 -- each line that was answered has a byte at least
-lines_many : (e : LiveError) (begins : ℕ) (first : State) (hand : List ℕ) (had left held holds : Option (List ℕ))
-    → IsSpentAfterLines begins first hand (streams had left held holds) e → IsSpent e → HasHadAtLeast (2 ^ 64 - 1 - begins) hand had left
-lines_many (live.Reader fault) begins first hand had left held holds a s = absurd s
-lines_many live.Writer begins first hand had left held holds a s = absurd s
-lines_many live.Memory begins first hand had left held holds a s = absurd s
-lines_many live.LinesSpent begins first hand had left held holds a s =
+lines_many : (form : AnswerForm) (e : LiveError) (begins : ℕ) (first : State) (hand : List ℕ) (had left held holds : Option (List ℕ))
+    → IsSpentAfterLines form begins first hand (streams had left held holds) e → IsSpent e → HasHadAtLeast (2 ^ 64 - 1 - begins) hand had left
+lines_many form (live.Reader fault) begins first hand had left held holds a s = absurd s
+lines_many form live.Writer begins first hand had left held holds a s = absurd s
+lines_many form live.Memory begins first hand had left held holds a s = absurd s
+lines_many form live.LinesSpent begins first hand had left held holds a s =
     let there = length-append hand a.bytes_read in
     let parts = ap length a.parts in
     let sizes = length-append a.front a.rest in
     let least = length-lines_of a.front in
     (a.bytes_read, a.consumed, omega (arith, there, parts, sizes, least, a.lines))
-lines_many live.ReadsSpent begins first hand had left held holds g s = (g.0, g.1, omega (arith, g.2))
+lines_many form live.ReadsSpent begins first hand had left held holds g s = (g.0, g.1, omega (arith, g.2))
 
-pub opened_later : {T : Type 0} (r : Result T LiveError) (first : State) (hand : List ℕ) (had left held holds : Option (List ℕ))
-    → IfErr r (IsSpentAfterLines 2 first hand (streams had left held holds)) → IfErr r (IsSpentAfterSetup hand had left)
-opened_later (Ok x) first hand had left held holds h = tt
-opened_later (Err e) first hand had left held holds h = λ s.
-    let many = lines_many e 2 first hand had left held holds h s in (many.0, many.1, omega (arith, many.2))
+pub opened_later : (form : AnswerForm) {T : Type 0} (r : Result T LiveError) (first : State) (hand : List ℕ) (had left held holds : Option (List ℕ))
+    → IfErr r (IsSpentAfterLines form 2 first hand (streams had left held holds)) → IfErr r (IsSpentAfterSetup hand had left)
+opened_later form (Ok x) first hand had left held holds h = tt
+opened_later form (Err e) first hand had left held holds h = λ s.
+    let many = lines_many form e 2 first hand had left held holds h s in (many.0, many.1, omega (arith, many.2))
 
 -- a line with its line feed has one byte at least
 behind_less : (bytes : List ℕ) → has_feed bytes ≡ true → length (rest_after_line bytes) < length bytes
@@ -445,22 +446,22 @@ behind_less (b ∷ bs) feed =
     ]) feed
 
 -- the loops behind a saved state whose line feed was given
-lines_later : (e : LiveError) (first : State) (hand part : List ℕ) (had mid left held holds : Option (List ℕ)) → has_feed (hand ++ part) ≡ true
-    → Consumes had mid part → IsSpentAfterLines 3 first (rest_after_line (hand ++ part)) (streams mid left held holds) e → IsSpentAfterSetup hand had left e
-lines_later e first hand part had mid left held holds feed read a = λ s.
-    let many = lines_many e 3 first (rest_after_line (hand ++ part)) mid left held holds a s in
+lines_later : (form : AnswerForm) (e : LiveError) (first : State) (hand part : List ℕ) (had mid left held holds : Option (List ℕ)) → has_feed (hand ++ part) ≡ true
+    → Consumes had mid part → IsSpentAfterLines form 3 first (rest_after_line (hand ++ part)) (streams mid left held holds) e → IsSpentAfterSetup hand had left e
+lines_later form e first hand part had mid left held holds feed read a = λ s.
+    let many = lines_many form e 3 first (rest_after_line (hand ++ part)) mid left held holds a s in
     let all = length-append part many.0 in
     let both = length-append hand part in
     let less = behind_less (hand ++ part) feed in
     (part ++ many.0, Consumes-then had mid left part many.0 read many.1, omega (arith, all, both, less, many.2))
 
-pub answered_later : {T : Type 0} (r : Result T LiveError) (first : State) (hand part : List ℕ) (had mid left held holds : Option (List ℕ)) (follow : Bool)
+pub answered_later : (form : AnswerForm) {T : Type 0} (r : Result T LiveError) (first : State) (hand part : List ℕ) (had mid left held holds : Option (List ℕ)) (follow : Bool)
     → follow ≡ has_feed (hand ++ part) → Consumes had mid part → (follow ≡ false → IfErr r (λ e. e ≡ live.Memory))
-    → IfErr r (IsSpentAfterLines 3 first (rest_after_line (hand ++ part)) (streams mid left held holds)) → IfErr r (IsSpentAfterSetup hand had left)
-answered_later (Ok y) first hand part had mid left held holds follow feed read none h = tt
-answered_later (Err e) first hand part had mid left held holds false feed read none h = memory_later e hand had left (none refl)
-answered_later (Err e) first hand part had mid left held holds true feed read none h =
-    lines_later e first hand part had mid left held holds (sym feed) read h
+    → IfErr r (IsSpentAfterLines form 3 first (rest_after_line (hand ++ part)) (streams mid left held holds)) → IfErr r (IsSpentAfterSetup hand had left)
+answered_later form (Ok y) first hand part had mid left held holds follow feed read none h = tt
+answered_later form (Err e) first hand part had mid left held holds false feed read none h = memory_later e hand had left (none refl)
+answered_later form (Err e) first hand part had mid left held holds true feed read none h =
+    lines_later form e first hand part had mid left held holds (sym feed) read h
 
 -- the loops behind a setup that was given so
 later_spends : (e : LiveError) (bytes_read : List ℕ) (had mid left : Option (List ℕ)) → Consumes had mid bytes_read

@@ -4,4 +4,5 @@ pub mod ReadSetupLemmas
 pub mod LiveLemmas
 pub mod NextLineLemmas
 pub mod ContinuationLemmas
+pub mod JsonRunLemmas
 pub mod CutLaws

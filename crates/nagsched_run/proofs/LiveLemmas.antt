@@ -8,7 +8,9 @@ use Rattle.check_objects.specs.Configuration.{Configuration}
 use Rattle.check_objects.specs.Setup.{setup_of}
 use Rattle.setup_model.specs.declared.error.LoadError.{LoadError}
 use Rattle.check_sched.specs.State.{State}
-use Rattle.nagsched_protocol.specs.declared.command.RunCommand.{RunCommand}
+use Rattle.nagsched_protocol.specs.declared.answer_form.AnswerForm.{AnswerForm}
+use Rattle.nagsched_protocol.specs.declared.answer_form.AnswerForm.TheVariants as forms
+use Rattle.nagsched_protocol.specs.Request.{Request}
 use Rattle.nagsched_protocol.specs.declared.drive_error.DriveError.{DriveError}
 use Rattle.nagsched_protocol.specs.declared.drive_error.DriveError.TheVariants as errors
 use Rattle.nagsched_protocol.specs.declared.line_reader.TheConstants.{SETUP_PREFIX_BYTES}
@@ -29,10 +31,9 @@ use Rattle.nagsched_protocol.proofs.LiveLaws.{line_first, lines_by}
 use Rattle.nagsched_protocol.proofs.KeptLemmas.{setup_stays, too_long}
 use Rattle.nagsched_protocol.specs.declared.start.Start.{Start}
 use Rattle.nagsched_protocol.specs.LiveText.{line_answer, answers_from, live_text, line_meaning, state_after_line}
-use Rattle.nagsched_protocol.specs.Text.{input_refusal_text, refused_text}
 use Rattle.nagsched_protocol.specs.Output.{AreWholeLines}
 use Rattle.nagsched_protocol.proofs.OutputLemmas.{Appends-Keeps, Appends-none, Appends-trans, front_none, whole_on}
-use Rattle.nagsched_protocol.proofs.TextLemmas.{answer_line_ends}
+use Rattle.nagsched_protocol.proofs.TextLemmas.{answer_text_ends, refusal_text_ends}
 use Rattle.nagsched_protocol.specs.Streams.{IsInput}
 use Rattle.nagsched_protocol.specs.Written.{IsLineWritten, LeftOfLine}
 use Rattle.nagsched_run.specs.Live.{IsSpentAfterInput, IsSpentAfterLines, HasAnsweredLines, ConversationEnded, LeavesText, LineFailed, AnsweringEnded}
@@ -141,6 +142,12 @@ pub leaves_line : {T : Type 0} (r : Result T DriveError) (held holds : Option (L
 leaves_line (Ok x) held holds line other same h = tt
 leaves_line (Err e) held holds line other same h = leaves_left e held holds other (subst (LeftOfLine e held holds) same h)
 
+-- of a line that is another's text, next to what else holds
+pub line_answered : {T P : Type 0} (r : Result T DriveError) (held holds : Option (List ℕ)) (line other : List ℕ) → line ≡ other → P
+    → IsLineWritten r held holds line → OnOk r (P × Appends held holds other)
+line_answered (Ok x) held holds line other same p h = (p, subst (Appends held holds) same h)
+line_answered (Err e) held holds line other same p h = tt
+
 -- all of it, where the flush failed
 pub leaves_all : (held mid holds : Option (List ℕ)) (text : List ℕ) → Appends held mid text → Keeps mid holds → LeavesText errors.Write held holds text
 leaves_all held mid holds text a k =
@@ -151,10 +158,25 @@ wrote_behind held mid holds text k a = Appends-trans held mid holds [] text (app
 
 -- ---- answers
 
-pub answer_lines : (s : State) (r : Result (Option RunCommand) InputRefusal) → AreWholeLines (line_answer s r)
-answer_lines s (Ok None) = inl refl
-answer_lines s (Ok (Some c)) = inr (answer_line_ends s c)
-answer_lines s (Err why) = inr (refused_text (input_refusal_text why), refl)
+-- the answer to this line with number n, and the state after it
+abbrev pub answer : AnswerForm → State → ℕ → List ℕ → List ℕ
+answer form s n line = line_answer form s n line (line_meaning form s.setup n line)
+
+abbrev pub state_after : AnswerForm → State → ℕ → List ℕ → State
+state_after form s n line = state_after_line s (line_meaning form s.setup n line)
+
+answer_by : (form : AnswerForm) (s : State) (n : ℕ) (line : List ℕ) (r : Result (Option Request) InputRefusal) → AreWholeLines (line_answer form s n line r)
+answer_by form s n line (Ok None) = inl refl
+answer_by form s n line (Ok (Some request)) = inr (answer_text_ends form n s request)
+answer_by form s n line (Err why) = inr (refusal_text_ends form line why)
+
+pub answer_lines : (form : AnswerForm) (s : State) (n : ℕ) (line : List ℕ) → AreWholeLines (answer form s n line)
+answer_lines form s n line = answer_by form s n line (line_meaning form s.setup n line)
+
+no_answer : (form : AnswerForm) (s : State) (n : ℕ) → answer form s n [] ≡ []
+no_answer forms.Words s n = refl
+no_answer forms.Explained s n = refl
+no_answer forms.Json s n = refl
 
 -- bytes with a line feed are a line and those behind it, whatever comes later
 lines_on : (bytes more : List ℕ) → has_feed bytes ≡ true → lines_of (bytes ++ more) ≡ first_line_of bytes ∷ lines_of (rest_after_line bytes ++ more)
@@ -163,53 +185,53 @@ lines_on (b ∷ bs) more h =
     lines_apart b (bs ++ more) ∙ ap (λ l. l ∷ lines_of (rest_after_line (b ∷ bs ++ more))) (first_stays (b ∷ bs) more h)
     ∙ ap (λ l. first_line_of (b ∷ bs) ∷ lines_of l) (behind_stays (b ∷ bs) more h)
 
-pub answers_on : (s : State) (n : ℕ) (hand bytes_read more : List ℕ) → has_feed (hand ++ bytes_read) ≡ true
-    → answers_from s n (lines_of (hand ++ (bytes_read ++ more))) ≡ line_answer s (line_meaning s n (first_line_of (hand ++ bytes_read)))
-    ++ answers_from (state_after_line s (line_meaning s n (first_line_of (hand ++ bytes_read)))) (n + 1) (lines_of (rest_after_line (hand ++ bytes_read) ++ more))
-answers_on s n hand bytes_read more h =
-    ap (λ l. answers_from s n (lines_of l)) (sym (append_assoc hand bytes_read more)) ∙ ap (answers_from s n) (lines_on (hand ++ bytes_read) more h)
+pub answers_on : (form : AnswerForm) (s : State) (n : ℕ) (hand bytes_read more : List ℕ) → has_feed (hand ++ bytes_read) ≡ true
+    → answers_from form s n (lines_of (hand ++ (bytes_read ++ more))) ≡ answer form s n (first_line_of (hand ++ bytes_read))
+    ++ answers_from form (state_after form s n (first_line_of (hand ++ bytes_read))) (n + 1) (lines_of (rest_after_line (hand ++ bytes_read) ++ more))
+answers_on form s n hand bytes_read more h =
+    ap (λ l. answers_from form s n (lines_of l)) (sym (append_assoc hand bytes_read more)) ∙ ap (answers_from form s n) (lines_on (hand ++ bytes_read) more h)
 
 -- the last line has no line feed; no byte is no line, and answered like a blank one
-pub answers_last : (s : State) (n : ℕ) (bytes : List ℕ) → has_feed bytes ≡ false
-    → answers_from s n (lines_of bytes) ≡ line_answer s (line_meaning s n (first_line_of bytes))
-answers_last s n [] h = refl
-answers_last s n (b ∷ bs) h =
-    ap (answers_from s n) (lines_apart b bs ∙ ap (λ l. first_line_of (b ∷ bs) ∷ lines_of l) (behind_none (b ∷ bs) h)) ∙ append-nil _
+pub answers_last : (form : AnswerForm) (s : State) (n : ℕ) (bytes : List ℕ) → has_feed bytes ≡ false
+    → answers_from form s n (lines_of bytes) ≡ answer form s n (first_line_of bytes)
+answers_last form s n [] h = sym (no_answer form s n)
+answers_last form s n (b ∷ bs) h =
+    ap (answers_from form s n) (lines_apart b bs ∙ ap (λ l. first_line_of (b ∷ bs) ∷ lines_of l) (behind_none (b ∷ bs) h)) ∙ append-nil _
 
 -- ---- one line after another
 
 -- the state behind these lines
-abbrev pub state_behind : State → ℕ → List (List ℕ) → State
-state_behind s n [] = s
-state_behind s n (line ∷ lines) = state_behind (state_after_line s (line_meaning s n line)) (n + 1) lines
+abbrev pub state_behind : AnswerForm → State → ℕ → List (List ℕ) → State
+state_behind form s n [] = s
+state_behind form s n (line ∷ lines) = state_behind form (state_after form s n line) (n + 1) lines
 
 -- the answers to lines and one more, and the state behind them
-answers_then : (s : State) (n : ℕ) (lines : List (List ℕ)) (line : List ℕ)
-    → answers_from s n (lines ++ line ∷ []) ≡ answers_from s n lines ++ line_answer (state_behind s n lines) (line_meaning (state_behind s n lines) (n + length lines) line)
-answers_then s n [] line = append-nil _ ∙ ap (λ k. line_answer s (line_meaning s k line)) (let e : n ≡ n + 0 = omega arith in e)
-answers_then s n (x ∷ xs) line =
-    let t = state_after_line s (line_meaning s n x) in
-    let u = state_behind t (n + 1) xs in
-    ap (λ l. line_answer s (line_meaning s n x) ++ l) (answers_then t (n + 1) xs line
-    ∙ ap (λ k. answers_from t (n + 1) xs ++ line_answer u (line_meaning u k line)) (let e : n + 1 + length xs ≡ n + suc (length xs) = omega arith in e))
-    ∙ sym (append_assoc (line_answer s (line_meaning s n x)) (answers_from t (n + 1) xs) _)
+answers_then : (form : AnswerForm) (s : State) (n : ℕ) (lines : List (List ℕ)) (line : List ℕ)
+    → answers_from form s n (lines ++ line ∷ []) ≡ answers_from form s n lines ++ answer form (state_behind form s n lines) (n + length lines) line
+answers_then form s n [] line = append-nil _ ∙ ap (λ k. answer form s k line) (let e : n ≡ n + 0 = omega arith in e)
+answers_then form s n (x ∷ xs) line =
+    let t = state_after form s n x in
+    let u = state_behind form t (n + 1) xs in
+    ap (λ l. answer form s n x ++ l) (answers_then form t (n + 1) xs line
+    ∙ ap (λ k. answers_from form t (n + 1) xs ++ answer form u k line) (let e : n + 1 + length xs ≡ n + suc (length xs) = omega arith in e))
+    ∙ sym (append_assoc (answer form s n x) (answers_from form t (n + 1) xs) _)
 
-state_then : (s : State) (n : ℕ) (lines : List (List ℕ)) (line : List ℕ)
-    → state_behind s n (lines ++ line ∷ []) ≡ state_after_line (state_behind s n lines) (line_meaning (state_behind s n lines) (n + length lines) line)
-state_then s n [] line = ap (λ k. state_after_line s (line_meaning s k line)) (let e : n ≡ n + 0 = omega arith in e)
-state_then s n (x ∷ xs) line =
-    let t = state_after_line s (line_meaning s n x) in
-    let u = state_behind t (n + 1) xs in
-    state_then t (n + 1) xs line ∙ ap (λ k. state_after_line u (line_meaning u k line)) (let e : n + 1 + length xs ≡ n + suc (length xs) = omega arith in e)
+state_then : (form : AnswerForm) (s : State) (n : ℕ) (lines : List (List ℕ)) (line : List ℕ)
+    → state_behind form s n (lines ++ line ∷ []) ≡ state_after form (state_behind form s n lines) (n + length lines) line
+state_then form s n [] line = ap (λ k. state_after form s k line) (let e : n ≡ n + 0 = omega arith in e)
+state_then form s n (x ∷ xs) line =
+    let t = state_after form s n x in
+    let u = state_behind form t (n + 1) xs in
+    state_then form t (n + 1) xs line ∙ ap (λ k. state_after form u k line) (let e : n + 1 + length xs ≡ n + suc (length xs) = omega arith in e)
 
 number_is : (count begins n : ℕ) → count + begins ≡ n → n ≡ begins + count
 number_is count begins n e = omega (arith, e)
 
-one_behind : (begins : ℕ) (first : State) (lines : List (List ℕ)) (line : List ℕ) (s : State) (number : ℕ) → s ≡ state_behind first begins lines
+one_behind : (form : AnswerForm) (begins : ℕ) (first : State) (lines : List (List ℕ)) (line : List ℕ) (s : State) (number : ℕ) → s ≡ state_behind form first begins lines
     → number ≡ begins + length lines
-    → (answers_from first begins (lines ++ line ∷ []) ≡ answers_from first begins lines ++ line_answer s (line_meaning s number line))
-    × (state_behind first begins (lines ++ line ∷ []) ≡ state_after_line s (line_meaning s number line))
-one_behind begins first lines line s number same n = rw (same, n) (answers_then first begins lines line, state_then first begins lines line)
+    → (answers_from form first begins (lines ++ line ∷ []) ≡ answers_from form first begins lines ++ answer form s number line)
+    × (state_behind form first begins (lines ++ line ∷ []) ≡ state_after form s number line)
+one_behind form begins first lines line s number same n = rw (same, n) (answers_then form first begins lines line, state_then form first begins lines line)
 
 -- whole lines and one more
 one_more : (taken line : List ℕ) → AreWholeLines taken → has_feed line ≡ false → lines_of (taken ++ (line ++ 10 ∷ [])) ≡ lines_of taken ++ line ∷ []
@@ -226,22 +248,22 @@ taken_more opened hand rest part bytes_read taken e feed behind =
 -- Where a conversation stands that began at this state with these bytes at hand: the bytes that were given, the whole lines that
 -- were written, and that the text goes on from here as it goes on from the beginning, whatever comes later.
 -- Those bytes are whole lines from the beginning of what was at hand and was given, with their answers and the state behind them.
-pub record Talked (begins : ℕ) (first : State) (opened : List ℕ) (had left held holds : Option (List ℕ)) (number : ℕ) (s : State) (hand : List ℕ) : Type 0 where
+pub record Talked (form : AnswerForm) (begins : ℕ) (first : State) (opened : List ℕ) (had left held holds : Option (List ℕ)) (number : ℕ) (s : State) (hand : List ℕ) : Type 0 where
   pub bytes_read : List ℕ
   pub front : List ℕ
   pub consumed : Consumes had left bytes_read
   pub appended : Appends held holds front
   pub whole : AreWholeLines front
-  pub goes_on : (more : List ℕ) → answers_from first begins (lines_of (opened ++ (bytes_read ++ more))) ≡ front ++ answers_from s number (lines_of (hand ++ more))
+  pub goes_on : (more : List ℕ) → answers_from form first begins (lines_of (opened ++ (bytes_read ++ more))) ≡ front ++ answers_from form s number (lines_of (hand ++ more))
   pub taken : List ℕ
   pub parts : opened ++ bytes_read ≡ taken ++ hand
   pub full : AreWholeLines taken
   pub count : length (lines_of taken) + begins ≡ number
-  pub answers : front ≡ answers_from first begins (lines_of taken)
-  pub state : s ≡ state_behind first begins (lines_of taken)
+  pub answers : front ≡ answers_from form first begins (lines_of taken)
+  pub state : s ≡ state_behind form first begins (lines_of taken)
 
-pub talk_begins : (begins : ℕ) (first : State) (opened : List ℕ) (had held : Option (List ℕ)) → Talked begins first opened had had held held begins first opened
-talk_begins begins first opened had held =
+pub talk_begins : {form : AnswerForm} (begins : ℕ) (first : State) (opened : List ℕ) (had held : Option (List ℕ)) → Talked form begins first opened had had held held begins first opened
+talk_begins {form = form} begins first opened had held =
     record {
       bytes_read = [];
       front = [];
@@ -258,55 +280,55 @@ talk_begins begins first opened had held =
     }
 
 -- a whole line was answered
-pub talk_goes_on : (begins : ℕ) (first s t : State) (opened hand rest part : List ℕ) (had mid left held wrote holds : Option (List ℕ)) (number : ℕ)
-    → Talked begins first opened had mid held wrote number s hand → Consumes mid left part → has_feed (hand ++ part) ≡ true → rest ≡ rest_after_line (hand ++ part)
-    → t ≡ state_after_line s (line_meaning s number (first_line_of (hand ++ part)))
-    → Appends wrote holds (line_answer s (line_meaning s number (first_line_of (hand ++ part))))
-    → Talked begins first opened had left held holds (number + 1) t rest
-talk_goes_on begins first s t opened hand rest part had mid left held wrote holds number k read feed behind after wrote_it =
-    let line = line_meaning s number (first_line_of (hand ++ part)) in
+pub talk_goes_on : {form : AnswerForm} (begins : ℕ) (first s t : State) (opened hand rest part : List ℕ) (had mid left held wrote holds : Option (List ℕ)) (number : ℕ)
+    → Talked form begins first opened had mid held wrote number s hand → Consumes mid left part → has_feed (hand ++ part) ≡ true → rest ≡ rest_after_line (hand ++ part)
+    → t ≡ state_after form s number (first_line_of (hand ++ part))
+    → Appends wrote holds (answer form s number (first_line_of (hand ++ part)))
+    → Talked form begins first opened had left held holds (number + 1) t rest
+talk_goes_on {form = form} begins first s t opened hand rest part had mid left held wrote holds number k read feed behind after wrote_it =
+    let line = first_line_of (hand ++ part) in
     let bytes = first_line_of (hand ++ part) ++ 10 ∷ [] in
     let lines = one_more k.taken (first_line_of (hand ++ part)) k.full (first_free (hand ++ part)) in
-    let more = one_behind begins first (lines_of k.taken) (first_line_of (hand ++ part)) s number k.state (number_is _ _ _ k.count) in
+    let more = one_behind form begins first (lines_of k.taken) (first_line_of (hand ++ part)) s number k.state (number_is _ _ _ k.count) in
     record {
       bytes_read = k.bytes_read ++ part;
-      front = k.front ++ line_answer s line;
+      front = k.front ++ answer form s number line;
       consumed = Consumes-then had mid left k.bytes_read part k.consumed read;
-      appended = Appends-trans held wrote holds k.front (line_answer s line) k.appended wrote_it;
-      whole = whole_on k.front (line_answer s line) k.whole (answer_lines s line);
+      appended = Appends-trans held wrote holds k.front (answer form s number line) k.appended wrote_it;
+      whole = whole_on k.front (answer form s number line) k.whole (answer_lines form s number line);
       goes_on = λ more.
-          ap (λ l. answers_from first begins (lines_of (opened ++ l))) (append_assoc k.bytes_read part more) ∙ k.goes_on (part ++ more)
-          ∙ ap (λ l. k.front ++ l) (answers_on s number hand part more feed
-          ∙ ap (λ l. line_answer s line ++ l) (ap (λ u. answers_from u (number + 1) (lines_of (rest_after_line (hand ++ part) ++ more))) (sym after)
-          ∙ ap (λ l. answers_from t (number + 1) (lines_of (l ++ more))) (sym behind)))
-          ∙ sym (append_assoc k.front (line_answer s line) _);
+          ap (λ l. answers_from form first begins (lines_of (opened ++ l))) (append_assoc k.bytes_read part more) ∙ k.goes_on (part ++ more)
+          ∙ ap (λ l. k.front ++ l) (answers_on form s number hand part more feed
+          ∙ ap (λ l. answer form s number line ++ l) (ap (λ u. answers_from form u (number + 1) (lines_of (rest_after_line (hand ++ part) ++ more))) (sym after)
+          ∙ ap (λ l. answers_from form t (number + 1) (lines_of (l ++ more))) (sym behind)))
+          ∙ sym (append_assoc k.front (answer form s number line) _);
       taken = k.taken ++ bytes;
       parts = taken_more opened hand rest part k.bytes_read k.taken k.parts feed behind;
       full = inr (k.taken ++ first_line_of (hand ++ part), sym (append_assoc k.taken (first_line_of (hand ++ part)) (10 ∷ [])));
       count = (let sizes = ap length lines ∙ length-append (lines_of k.taken) (first_line_of (hand ++ part) ∷ []) in omega (arith, sizes, k.count));
-      answers = ap (λ l. l ++ line_answer s line) k.answers ∙ sym more.0 ∙ ap (answers_from first begins) (sym lines);
-      state = after ∙ sym more.1 ∙ ap (state_behind first begins) (sym lines);
+      answers = ap (λ l. l ++ answer form s number line) k.answers ∙ sym more.0 ∙ ap (answers_from form first begins) (sym lines);
+      state = after ∙ sym more.1 ∙ ap (state_behind form first begins) (sym lines);
     }
 
 -- the text to the end, where the last line has no line feed
-ended_text : (begins : ℕ) (first s : State) (opened hand part : List ℕ) (had mid left held wrote : Option (List ℕ)) (number : ℕ)
-    → (k : Talked begins first opened had mid held wrote number s hand) → has_feed (hand ++ part) ≡ false
-    → answers_from first begins (lines_of (opened ++ (k.bytes_read ++ part))) ≡ k.front ++ line_answer s (line_meaning s number (first_line_of (hand ++ part)))
-ended_text begins first s opened hand part had mid left held wrote number k free =
-    k.goes_on part ∙ ap (λ l. k.front ++ l) (answers_last s number (hand ++ part) free)
+ended_text : {form : AnswerForm} (begins : ℕ) (first s : State) (opened hand part : List ℕ) (had mid left held wrote : Option (List ℕ)) (number : ℕ)
+    → (k : Talked form begins first opened had mid held wrote number s hand) → has_feed (hand ++ part) ≡ false
+    → answers_from form first begins (lines_of (opened ++ (k.bytes_read ++ part))) ≡ k.front ++ answer form s number (first_line_of (hand ++ part))
+ended_text {form = form} begins first s opened hand part had mid left held wrote number k free =
+    k.goes_on part ∙ ap (λ l. k.front ++ l) (answers_last form s number (hand ++ part) free)
 
 -- the input ended, and the writer was flushed or not
-pub talk_ends : (begins : ℕ) (first s : State) (opened hand part : List ℕ) (had mid left held wrote wrote' holds : Option (List ℕ)) (number : ℕ)
+pub talk_ends : {form : AnswerForm} (begins : ℕ) (first s : State) (opened hand part : List ℕ) (had mid left held wrote wrote' holds : Option (List ℕ)) (number : ℕ)
     (flushed : Result (Unit {0}) LiveError) (wrote_all : Result (Unit {0}) DriveError)
-    → Talked begins first opened had mid held wrote number s hand → Consumes mid left part → has_feed (hand ++ part) ≡ false → IsAtEnd left
-    → Appends wrote wrote' (line_answer s (line_meaning s number (first_line_of (hand ++ part)))) → Keeps wrote' holds → IsWriteResult flushed wrote_all → IsOkUnless wrote_all errors.Write
-    → AnsweringEnded begins first opened (streams had left held holds) flushed
-talk_ends begins first s opened hand part had mid left held wrote wrote' holds number (Ok _) written k read free end wrote_it kept w f =
+    → Talked form begins first opened had mid held wrote number s hand → Consumes mid left part → has_feed (hand ++ part) ≡ false → IsAtEnd left
+    → Appends wrote wrote' (answer form s number (first_line_of (hand ++ part))) → Keeps wrote' holds → IsWriteResult flushed wrote_all → IsOkUnless wrote_all errors.Write
+    → AnsweringEnded form begins first opened (streams had left held holds) flushed
+talk_ends {form = form} begins first s opened hand part had mid left held wrote wrote' holds number (Ok _) written k read free end wrote_it kept w f =
     let bytes_read = Consumes-then had mid left k.bytes_read part k.consumed read in
     let text = ended_text begins first s opened hand part had mid left held wrote number k free in
     let all = Appends-Keeps held wrote' holds _ (Appends-trans held wrote wrote' k.front _ k.appended wrote_it) kept in
     (k.bytes_read ++ part, input_all had left (k.bytes_read ++ part) bytes_read end, bytes_read, rw text all, tt)
-talk_ends begins first s opened hand part had mid left held wrote wrote' holds number (Err e) written k read free end wrote_it kept w f =
+talk_ends {form = form} begins first s opened hand part had mid left held wrote wrote' holds number (Err e) written k read free end wrote_it kept w f =
     let bytes_read = Consumes-then had mid left k.bytes_read part k.consumed read in
     let text = ended_text begins first s opened hand part had mid left held wrote number k free in
     let all = Appends-trans held wrote wrote' k.front _ k.appended wrote_it in
@@ -314,28 +336,28 @@ talk_ends begins first s opened hand part had mid left held wrote wrote' holds n
     (k.bytes_read ++ part, input_all had left (k.bytes_read ++ part) bytes_read end, tt, tt, rw (fault, text) (leaves_all held wrote' holds _ all kept))
 
 -- a line couldn't be taken or answered
-pub talk_fails : (begins : ℕ) (first s : State) (opened hand coming : List ℕ) (had mid left held wrote holds : Option (List ℕ)) (number : ℕ)
+pub talk_fails : {form : AnswerForm} (begins : ℕ) (first s : State) (opened hand coming : List ℕ) (had mid left held wrote holds : Option (List ℕ)) (number : ℕ)
     (e : LiveError) (ended : Result (Unit {0}) LiveError)
-    → Talked begins first opened had mid held wrote number s hand → IsInput mid coming
-    → LeavesText (drive_error_of e) wrote holds (answers_from s number (lines_of (hand ++ coming))) → ended ≡ Err e → AnsweringEnded begins first opened (streams had left held holds) ended
-talk_fails begins first s opened hand coming had mid left held wrote holds number e ended k i f r =
+    → Talked form begins first opened had mid held wrote number s hand → IsInput mid coming
+    → LeavesText (drive_error_of e) wrote holds (answers_from form s number (lines_of (hand ++ coming))) → ended ≡ Err e → AnsweringEnded form begins first opened (streams had left held holds) ended
+talk_fails {form = form} begins first s opened hand coming had mid left held wrote holds number e ended k i f r =
     rw r (
       k.bytes_read ++ coming,
       input_on had mid k.bytes_read coming k.consumed i,
       tt,
       tt,
-      leaves_on (drive_error_of e) held wrote holds k.front (answers_from s number (lines_of (hand ++ coming))) _ k.whole k.appended (k.goes_on coming) f,
+      leaves_on (drive_error_of e) held wrote holds k.front (answers_from form s number (lines_of (hand ++ coming))) _ k.whole k.appended (k.goes_on coming) f,
     )
 
 -- as many lines as can be numbered were answered
-pub talk_spent : (begins : ℕ) (first s : State) (opened hand : List ℕ) (had left held holds : Option (List ℕ)) (number : ℕ) (e : LiveError)
-    → Talked begins first opened had left held holds number s hand → AnsweringEnded {T = Unit {0}} begins first opened (streams had left held holds) (Err e)
-talk_spent begins first s opened hand had left held holds number e k =
+pub talk_spent : {form : AnswerForm} (begins : ℕ) (first s : State) (opened hand : List ℕ) (had left held holds : Option (List ℕ)) (number : ℕ) (e : LiveError)
+    → Talked form begins first opened had left held holds number s hand → AnsweringEnded {T = Unit {0}} form begins first opened (streams had left held holds) (Err e)
+talk_spent {form = form} begins first s opened hand had left held holds number e k =
     talk_fails begins first s opened hand (rest_of left) had left left held holds holds number e (Err e) k (rest_input left) (leaves_none (drive_error_of e) holds _) refl
 
-pub lines_answered : (begins : ℕ) (first s : State) (opened hand : List ℕ) (had left held holds : Option (List ℕ)) (number count : ℕ)
-    → Talked begins first opened had left held holds number s hand → number ≡ count + begins → HasAnsweredLines count begins first opened (streams had left held holds)
-lines_answered begins first s opened hand had left held holds number count k e = record {
+pub lines_answered : {form : AnswerForm} (begins : ℕ) (first s : State) (opened hand : List ℕ) (had left held holds : Option (List ℕ)) (number count : ℕ)
+    → Talked form begins first opened had left held holds number s hand → number ≡ count + begins → HasAnsweredLines form count begins first opened (streams had left held holds)
+lines_answered {form = form} begins first s opened hand had left held holds number count k e = record {
   bytes_read = k.bytes_read;
   front = k.taken;
   rest = hand;
@@ -347,35 +369,35 @@ lines_answered begins first s opened hand had left held holds number count k e =
 }
 
 -- a line couldn't be taken or answered: no loop over lines is spent then, and one over reads by as many bytes
-pub line_spends : (begins : ℕ) (first s : State) (opened hand part : List ℕ) (had mid left held wrote holds : Option (List ℕ)) (number : ℕ) (e : LiveError)
-    → Talked begins first opened had mid held wrote number s hand → Consumes mid left part → IsLineReadingError part e → IsSpentAfterLines begins first opened (streams had left held holds) e
-line_spends begins first s opened hand part had mid left held wrote holds number (live.Reader fault) k read h = tt
-line_spends begins first s opened hand part had mid left held wrote holds number live.Writer k read h = tt
-line_spends begins first s opened hand part had mid left held wrote holds number live.Memory k read h = tt
-line_spends begins first s opened hand part had mid left held wrote holds number live.LinesSpent k read h = absurd h
-line_spends begins first s opened hand part had mid left held wrote holds number live.ReadsSpent k read h =
+pub line_spends : {form : AnswerForm} (begins : ℕ) (first s : State) (opened hand part : List ℕ) (had mid left held wrote holds : Option (List ℕ)) (number : ℕ) (e : LiveError)
+    → Talked form begins first opened had mid held wrote number s hand → Consumes mid left part → IsLineReadingError part e → IsSpentAfterLines form begins first opened (streams had left held holds) e
+line_spends {form = form} begins first s opened hand part had mid left held wrote holds number (live.Reader fault) k read h = tt
+line_spends {form = form} begins first s opened hand part had mid left held wrote holds number live.Writer k read h = tt
+line_spends {form = form} begins first s opened hand part had mid left held wrote holds number live.Memory k read h = tt
+line_spends {form = form} begins first s opened hand part had mid left held wrote holds number live.LinesSpent k read h = absurd h
+line_spends {form = form} begins first s opened hand part had mid left held wrote holds number live.ReadsSpent k read h =
     let sizes = length-append k.bytes_read part in
     (k.bytes_read ++ part, Consumes-then had mid left k.bytes_read part k.consumed read, omega (arith, sizes, h))
 
 -- ---- one line
 
-pub untaken : (s : State) (number : ℕ) (hand bytes_read : List ℕ) (had left held holds : Option (List ℕ)) (e : DriveError)
-    → Consumes had left bytes_read → Keeps held holds → LineFailed s number hand had held holds e
-untaken s number hand bytes_read had left held holds e read kept =
+pub untaken : (form : AnswerForm) (s : State) (number : ℕ) (hand bytes_read : List ℕ) (had left held holds : Option (List ℕ)) (e : DriveError)
+    → Consumes had left bytes_read → Keeps held holds → LineFailed form s number hand had held holds e
+untaken form s number hand bytes_read had left held holds e read kept =
     (bytes_read ++ rest_of left, input_on had left bytes_read (rest_of left) read (rest_input left), leaves_kept e held holds _ kept)
 
-pub unanswered : (s : State) (number : ℕ) (hand bytes_read : List ℕ) (had left held mid holds : Option (List ℕ)) (e : DriveError) (whole : Bool)
+pub unanswered : (form : AnswerForm) (s : State) (number : ℕ) (hand bytes_read : List ℕ) (had left held mid holds : Option (List ℕ)) (e : DriveError) (whole : Bool)
     → Consumes had left bytes_read → whole ≡ has_feed (hand ++ bytes_read) → (whole ≡ false → IsAtEnd left) → Keeps held mid
-    → LeavesText e mid holds (line_answer s (line_meaning s number (first_line_of (hand ++ bytes_read)))) → LineFailed s number hand had held holds e
-unanswered s number hand bytes_read had left held mid holds e true read feed end kept f = (
+    → LeavesText e mid holds (answer form s number (first_line_of (hand ++ bytes_read))) → LineFailed form s number hand had held holds e
+unanswered form s number hand bytes_read had left held mid holds e true read feed end kept f = (
   bytes_read ++ rest_of left,
   input_on had left bytes_read (rest_of left) read (rest_input left),
-  leaves_before e held mid holds _ kept (rw (answers_on s number hand bytes_read (rest_of left) (sym feed)) (leaves_more e mid holds _ _ f)),
+  leaves_before e held mid holds _ kept (rw (answers_on form s number hand bytes_read (rest_of left) (sym feed)) (leaves_more e mid holds _ _ f)),
 )
-unanswered s number hand bytes_read had left held mid holds e false read feed end kept f = (
+unanswered form s number hand bytes_read had left held mid holds e false read feed end kept f = (
   bytes_read,
   input_all had left bytes_read read (end refl),
-  leaves_before e held mid holds _ kept (rw (answers_last s number (hand ++ bytes_read) (sym feed)) f),
+  leaves_before e held mid holds _ kept (rw (answers_last form s number (hand ++ bytes_read) (sym feed)) f),
 )
 
 -- ---- the whole
@@ -397,14 +419,14 @@ setup_refused (Ok c) why h = cc
 setup_refused (Err e) why h = (e, refl, cc)
 
 -- an error, whatever came before it
-pub live_failed : (how : Start) (e : DriveError) (had left held holds : Option (List ℕ)) (input : List ℕ) → IsInput had input
-    → LeavesText e held holds (live_text how input) → ConversationEnded how (Err e) (streams had left held holds)
-live_failed how e had left held holds input i f = record { input = input; is_input = i; outcome_is = tt; written = tt; read = tt; fault = f }
+pub live_failed : {form : AnswerForm} (how : Start) (e : DriveError) (had left held holds : Option (List ℕ)) (input : List ℕ) → IsInput had input
+    → LeavesText e held holds (live_text form how input) → ConversationEnded form how (Err e) (streams had left held holds)
+live_failed {form = form} how e had left held holds input i f = record { input = input; is_input = i; outcome_is = tt; written = tt; read = tt; fault = f }
 
 -- an error before anything was written
-pub live_unwritten : (how : Start) (e : DriveError) (had left held : Option (List ℕ)) (bytes_read : List ℕ) → Consumes had left bytes_read
-    → ConversationEnded how (Err e) (streams had left held held)
-live_unwritten how e had left held bytes_read read =
+pub live_unwritten : {form : AnswerForm} (how : Start) (e : DriveError) (had left held : Option (List ℕ)) (bytes_read : List ℕ) → Consumes had left bytes_read
+    → ConversationEnded form how (Err e) (streams had left held held)
+live_unwritten {form = form} how e had left held bytes_read read =
     live_failed how e had left held held (bytes_read ++ rest_of left) (input_on had left bytes_read (rest_of left) read (rest_input left)) (leaves_none e held _)
 
 -- there are no lines behind the setup
@@ -431,16 +453,16 @@ refused_stays bytes_read left false feed end = setup_stays bytes_read (rest_of l
 -- ---- a loop that is spent
 
 -- what only writes spends none
-pub written_lines : {T : Type 0} (r : Result T LiveError) (written : Result T DriveError) (begins : ℕ) (first : State) (opened : List ℕ)
-    (had left held holds : Option (List ℕ)) → IsWriteResult r written → IfErr r (IsSpentAfterLines begins first opened (streams had left held holds))
-written_lines (Ok x) written begins first opened had left held holds w = tt
-written_lines (Err (live.Reader fault)) written begins first opened had left held holds w = tt
-written_lines (Err live.Writer) written begins first opened had left held holds w = tt
-written_lines (Err live.Memory) written begins first opened had left held holds w = tt
-written_lines (Err live.LinesSpent) written begins first opened had left held holds (e, inl f) = cc
-written_lines (Err live.LinesSpent) written begins first opened had left held holds (e, inr f) = cc
-written_lines (Err live.ReadsSpent) written begins first opened had left held holds (e, inl f) = cc
-written_lines (Err live.ReadsSpent) written begins first opened had left held holds (e, inr f) = cc
+pub written_lines : (form : AnswerForm) {T : Type 0} (r : Result T LiveError) (written : Result T DriveError) (begins : ℕ) (first : State) (opened : List ℕ)
+    (had left held holds : Option (List ℕ)) → IsWriteResult r written → IfErr r (IsSpentAfterLines form begins first opened (streams had left held holds))
+written_lines form (Ok x) written begins first opened had left held holds w = tt
+written_lines form (Err (live.Reader fault)) written begins first opened had left held holds w = tt
+written_lines form (Err live.Writer) written begins first opened had left held holds w = tt
+written_lines form (Err live.Memory) written begins first opened had left held holds w = tt
+written_lines form (Err live.LinesSpent) written begins first opened had left held holds (e, inl f) = cc
+written_lines form (Err live.LinesSpent) written begins first opened had left held holds (e, inr f) = cc
+written_lines form (Err live.ReadsSpent) written begins first opened had left held holds (e, inl f) = cc
+written_lines form (Err live.ReadsSpent) written begins first opened had left held holds (e, inr f) = cc
 
 pub written_spends : {T : Type 0} (r : Result T LiveError) (written : Result T DriveError) (had left : Option (List ℕ)) → IsWriteResult r written
     → IfErr r (IsSpentAfterInput had left)

@@ -1,3 +1,4 @@
 pub mod Cut
 pub mod Drive
+pub mod JsonRun
 pub mod Live

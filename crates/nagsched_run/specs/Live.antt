@@ -7,6 +7,7 @@ use Rattle.setup_model.specs.declared.error.LoadError.{LoadError}
 use Rattle.check_saved_state.specs.Saved.{Saved}
 use Rattle.check_saved_state.specs.Text.{saved_of_text}
 use Rattle.check_sched.specs.State.{State}
+use Rattle.nagsched_protocol.specs.declared.answer_form.AnswerForm.{AnswerForm}
 use Rattle.nagsched_protocol.specs.declared.drive_error.DriveError.{DriveError}
 use Rattle.nagsched_protocol.specs.declared.drive_error.DriveError.TheVariants as errors
 use Rattle.nagsched_protocol.specs.declared.line_reader.TheConstants.{SAVED_PREFIX_BYTES, SETUP_PREFIX_BYTES}
@@ -58,16 +59,16 @@ ReadBy how (Err e) had left input = (bytes_read : List ℕ) × Consumes had left
 abbrev pub HasReadLive : Start → Option (List ℕ) → Option (List ℕ) → List ℕ → Type 0
 HasReadLive how had left input = ReadBy how (setup_of (first_line_of input)) had left input
 
--- How a conversation ended, by how its scheduler starts. Even if the reader and the writer aren't known, there is one input for which all this holds.
-pub record ConversationEnded (how : Start) (ended : Result Outcome DriveError) (io : Streams) : Type 0 where
+-- How a conversation ended, by the form of its answers and how its scheduler starts. Even if the reader and the writer aren't known, there is one input for which all this holds.
+pub record ConversationEnded (form : AnswerForm) (how : Start) (ended : Result Outcome DriveError) (io : Streams) : Type 0 where
   pub input : List ℕ
   pub is_input : IsInput io.had input
   -- without an error it answered the lines or refused the input, wrote its text, and read as much as that needs
   pub outcome_is : IfOk ended (λ outcome. outcome ≡ live_outcome how input)
-  pub written : OnOk ended (Appends io.held io.holds (live_text how input))
+  pub written : OnOk ended (Appends io.held io.holds (live_text form how input))
   pub read : OnOk ended (HasReadLive how io.had io.left input)
   -- the part of the text that an error leaves
-  pub fault : IfErr ended (λ e. LeavesText e io.held io.holds (live_text how input))
+  pub fault : IfErr ended (λ e. LeavesText e io.held io.holds (live_text form how input))
 
 -- ---- the lines of a conversation
 
@@ -80,22 +81,22 @@ pub record HasTakenDocument (most : ℕ) (bytes : List ℕ) (follow : Bool) (han
 
 -- The next line was answered, from the bytes in the buffer and the bytes that were given. The fields say whether lines may follow, which bytes are in
 -- the buffer now, the scheduler's state, and the output.
-pub record HasAnsweredLine (s : State) (number : ℕ) (bytes : List ℕ) (more : Bool) (left : Option (List ℕ)) (after : State) (hand : List ℕ)
+pub record HasAnsweredLine (form : AnswerForm) (s : State) (number : ℕ) (bytes : List ℕ) (more : Bool) (left : Option (List ℕ)) (after : State) (hand : List ℕ)
     (held holds : Option (List ℕ)) : Type 0 where
   pub follows : more ≡ has_feed bytes
   pub ended : more ≡ false → IsAtEnd left
   pub buffer_is : hand ≡ rest_after_line bytes
-  pub state_is : after ≡ state_after_line s (line_meaning s number (first_line_of bytes))
-  pub wrote : Appends held holds (line_answer s (line_meaning s number (first_line_of bytes)))
+  pub state_is : after ≡ state_after_line s (line_meaning form s.setup number (first_line_of bytes))
+  pub wrote : Appends held holds (line_answer form s number (first_line_of bytes) (line_meaning form s.setup number (first_line_of bytes)))
 
 -- The next line couldn't be taken or answered. Some bytes come, and a prefix of the answers to the lines of all bytes was written.
-abbrev pub LineFailed : State → ℕ → List ℕ → Option (List ℕ) → Option (List ℕ) → Option (List ℕ) → DriveError → Type 0
-LineFailed s number hand had held holds e =
-    (coming : List ℕ) × IsInput had coming × LeavesText e held holds (answers_from s number (lines_of (hand ++ coming)))
+abbrev pub LineFailed : AnswerForm → State → ℕ → List ℕ → Option (List ℕ) → Option (List ℕ) → Option (List ℕ) → DriveError → Type 0
+LineFailed form s number hand had held holds e =
+    (coming : List ℕ) × IsInput had coming × LeavesText e held holds (answers_from form s number (lines_of (hand ++ coming)))
 
 -- This many lines were answered, from the line with the number `begins` on, and each from its beginning to its line feed. They are the beginning of the
 -- bytes in the buffer and the bytes that were given.
-pub record HasAnsweredLines (count begins : ℕ) (first : State) (hand : List ℕ) (io : Streams) : Type 0 where
+pub record HasAnsweredLines (form : AnswerForm) (count begins : ℕ) (first : State) (hand : List ℕ) (io : Streams) : Type 0 where
   pub bytes_read : List ℕ
   pub front : List ℕ
   pub rest : List ℕ
@@ -103,7 +104,7 @@ pub record HasAnsweredLines (count begins : ℕ) (first : State) (hand : List �
   pub parts : hand ++ bytes_read ≡ front ++ rest
   pub lines : length (lines_of front) ≡ count
   pub whole : AreWholeLines front
-  pub answered : Appends io.held io.holds (answers_from first begins (lines_of front))
+  pub answered : Appends io.held io.holds (answers_from form first begins (lines_of front))
 
 -- at least this many bytes were given
 abbrev pub HasReadAtLeast : ℕ → Option (List ℕ) → Option (List ℕ) → Type 0
@@ -111,10 +112,10 @@ HasReadAtLeast count had left = (bytes_read : List ℕ) × Consumes had left byt
 
 -- The work after which a loop is spent. A loop over lines has answered as many lines as can have numbers, from the first line's number on. A loop over
 -- reads was given at least 2^64 - 1 bytes.
-abbrev pub IsSpentAfterLines : ℕ → State → List ℕ → Streams → LiveError → Type 0
-IsSpentAfterLines begins first hand io live.LinesSpent = HasAnsweredLines (2 ^ 64 - 1 - begins) begins first hand io
-IsSpentAfterLines begins first hand io live.ReadsSpent = HasReadAtLeast (2 ^ 64 - 1) io.had io.left
-IsSpentAfterLines begins first hand io e = ⊤
+abbrev pub IsSpentAfterLines : AnswerForm → ℕ → State → List ℕ → Streams → LiveError → Type 0
+IsSpentAfterLines form begins first hand io live.LinesSpent = HasAnsweredLines form (2 ^ 64 - 1 - begins) begins first hand io
+IsSpentAfterLines form begins first hand io live.ReadsSpent = HasReadAtLeast (2 ^ 64 - 1) io.had io.left
+IsSpentAfterLines form begins first hand io e = ⊤
 
 -- a loop of a conversation is spent only after at least 2^64 - 3 bytes
 abbrev pub IsSpentAfterInput : Option (List ℕ) → Option (List ℕ) → LiveError → Type 0
@@ -122,11 +123,11 @@ IsSpentAfterInput had left e = IsSpent e → HasReadAtLeast (2 ^ 64 - 3) had lef
 
 -- How the answering of lines ended, from the line with the number `begins` on, with these bytes in the buffer. Some bytes came. The answers to the
 -- lines of all bytes together were written, or after an error a prefix of these answers.
-abbrev pub AnsweringEnded : {T : Type 0} → ℕ → State → List ℕ → Streams → Result T LiveError → Type 0
-AnsweringEnded begins first hand io ended =
+abbrev pub AnsweringEnded : {T : Type 0} → AnswerForm → ℕ → State → List ℕ → Streams → Result T LiveError → Type 0
+AnsweringEnded form begins first hand io ended =
     (coming : List ℕ) × IsInput io.had coming × OnOk ended (Consumes io.had io.left coming)
-    × OnOk ended (Appends io.held io.holds (answers_from first begins (lines_of (hand ++ coming))))
-    × IfErr ended (λ e. LeavesText (drive_error_of e) io.held io.holds (answers_from first begins (lines_of (hand ++ coming))))
+    × OnOk ended (Appends io.held io.holds (answers_from form first begins (lines_of (hand ++ coming))))
+    × IfErr ended (λ e. LeavesText (drive_error_of e) io.held io.holds (answers_from form first begins (lines_of (hand ++ coming))))
 
 -- ---- what comes after the setup document
 
@@ -136,14 +137,14 @@ saved_at_start bytes = with_saved_refusal (saved_of_text (first_line_of bytes))
 
 -- How a conversation ended after a setup, with these bytes in the buffer. Some bytes came, and none if nothing may follow. For all bytes together it
 -- answered the lines or refused the saved state, and wrote its text. After an error it wrote a prefix of this text.
-pub record IsContinuation (how : Start) (c : Configuration) (may_follow : Bool) (hand : List ℕ) (ended : Result Outcome LiveError) (io : Streams) : Type 0 where
+pub record IsContinuation (form : AnswerForm) (how : Start) (c : Configuration) (may_follow : Bool) (hand : List ℕ) (ended : Result Outcome LiveError) (io : Streams) : Type 0 where
   pub coming : List ℕ
   pub is_input : IsInput io.had coming
   pub short : may_follow ≡ false → coming ≡ []
   pub outcome_is : IfOk ended (λ outcome. outcome ≡ outcome_by (beginning_over how c (hand ++ coming)))
-  pub written : OnOk ended (Appends io.held io.holds (answers_over (beginning_over how c (hand ++ coming))))
+  pub written : OnOk ended (Appends io.held io.holds (answers_over form (beginning_over how c (hand ++ coming))))
   pub read : OnOk ended (ReadOver (λ bytes_read. hand ++ bytes_read) (beginning_over how c (hand ++ coming)) io.had io.left coming)
-  pub fault : IfErr ended (λ e. LeavesText (drive_error_of e) io.held io.holds (answers_over (beginning_over how c (hand ++ coming))))
+  pub fault : IfErr ended (λ e. LeavesText (drive_error_of e) io.held io.holds (answers_over form (beginning_over how c (hand ++ coming))))
 
 -- at least this many bytes were in the buffer or were given
 abbrev pub HasHadAtLeast : ℕ → List ℕ → Option (List ℕ) → Option (List ℕ) → Type 0

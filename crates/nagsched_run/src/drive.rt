@@ -1,30 +1,38 @@
 //! A run: reads an input, carries out its commands on one scheduler, and writes the lines of the answers.
 
-ghost use Rattle.std.specs.Prelude.{◌≡◌, ◌≢◌, ◌≤◌, IfOk, IfErr, string_capacity};
+ghost use Rattle.std.specs.Prelude.{◌≡◌, ◌≢◌, ◌≤◌, IfErr, IfOk, IfSome, IsErrAnd, None, OnOk, string_capacity};
 ghost use Rattle.check_sched.specs.Step.{step};
+ghost use Rattle.nagsched_protocol.specs.Forms.{answer_text, json_line, refusal_text};
 ghost use Rattle.nagsched_protocol.specs.Start.{CanStart};
 ghost use Rattle.nagsched_protocol.specs.Text.{answer_line, line_from, state_after_command, text, text_from};
 ghost use Rattle.nagsched_protocol.specs.Written.{IsLineWritten, IsTextWritten};
-ghost use Rattle.nagsched_run.specs.Drive.{RunEnded, outcome_of};
+ghost use Rattle.nagsched_protocol.specs.Agreement.{refusal};
+ghost use Rattle.nagsched_protocol.specs.Explanation.{sentence};
+ghost use Rattle.nagsched_protocol.specs.Requested.{request as request_view};
+ghost use Rattle.nagsched_protocol.specs.Script.{refused_bytes};
+ghost use Rattle.nagsched_run.specs.Drive.{IsNote, RunEnded, outcome_of, run_note};
 ghost use Rattle.nagsched_protocol.specs.Streams.{streams};
 
 use check_sched::{Call, LAST_MOMENT, Sched};
 use nagsched_protocol::{
-    DriveError, Ended, MAX_READ_BYTES, Outcome, REPLY_BYTES, RunCommand, Script, Start, flush,
-    push_reply, read_at_most, write_list, write_refusal, write_saved, write_text,
+    AnswerForm, DriveError, Ended, Head, MAX_READ_BYTES, Outcome, REPLY_BYTES, Request, RunCommand,
+    Script, ScriptError, Start, explain_refusal, flush, push_reply, read_at_most, refuse_as,
+    refused_bytes, write_json_list, write_json_reply, write_json_saved, write_list, write_saved,
+    write_text,
 };
 use std::alloc::Global;
 use std::io::{Read, Write};
 
 /// Makes the calls of a script on a scheduler that starts fresh at the moment `start`, in milliseconds.
-/// It is [`run`] with this start.
+/// It is [`run`] with this start, without the note.
 pub fn drive<R: Read, W: Write>(alloc: Global, start: u64, reader: &mut R, writer: &mut W) -> Ended
     requires { start ≤ LAST_MOMENT }
     ensures { RunEnded (Start.Fresh start) result
         (streams (R.remaining reader.old) (R.remaining reader.new)
         (W.contents writer.old) (W.contents writer.new)) }
 {
-    run(alloc, Start::Fresh(start), reader, writer)
+    let mut note = String::new(alloc);
+    run(alloc, Start::Fresh(start), reader, writer, &mut note)
 }
 
 /// Runs a script. It reads a setup, a saved state if the scheduler starts from one, and commands, and
@@ -49,33 +57,72 @@ pub fn drive<R: Read, W: Write>(alloc: Global, start: u64, reader: &mut R, write
 ///
 /// Input, text and commands are our own profile. The rules of the calls are those of check_sched, after
 /// the chapters of the Nagios Core 4 manual that it names.
-pub fn run<R: Read, W: Write>(alloc: Global, start: Start, reader: &mut R, writer: &mut W) -> Ended
+///
+/// `note` gets the sentence that explains a refusal.
+pub fn run<R: Read, W: Write>(
+    alloc: Global,
+    start: Start,
+    reader: &mut R,
+    writer: &mut W,
+    note: &mut String,
+) -> Ended
     requires { CanStart start }
-    ensures { RunEnded start result
+    ensures { (run : RunEnded start result
         (streams (R.remaining reader.old) (R.remaining reader.new)
-        (W.contents writer.old) (W.contents writer.new)) }
+        (W.contents writer.old) (W.contents writer.new)))
+        × OnOk result (IsNote note.old note.new (run_note start run.input)) }
 {
     let input = read_at_most(alloc, reader, MAX_READ_BYTES)?;
-    let outcome = answer(alloc, start, &input, writer)?;
+    let outcome = answer(alloc, start, &input, writer, note)?;
     flush(writer)?;
     Ok(outcome)
 }
 
 /// Writes the text of an input that was read.
 #[tactic(auto, unfolding(nagsched_protocol::specs::Text::text, crate::specs::Drive::outcome_of))]
-fn answer<W: Write>(alloc: Global, start: Start, input: &[u8], writer: &mut W) -> Ended
+fn answer<W: Write>(
+    alloc: Global,
+    start: Start,
+    input: &[u8],
+    writer: &mut W,
+    note: &mut String,
+) -> Ended
     requires { CanStart start }
     ensures wrote { IsTextWritten result (W.contents writer.old) (W.contents writer.new)
         (text start input.now) }
     ensures outcome { IfOk result (λ outcome. outcome ≡ outcome_of start input.now) }
+    ensures note { OnOk result (IsNote note.old note.new (run_note start input.now)) }
 {
     match Script::read(alloc, start, input) {
         Ok(Script { sched, commands }) => carry_out(alloc, sched, &commands, writer),
-        Err(error) => {
-            write_refusal(alloc, error.refusal()?, writer)?;
-            Ok(Outcome::Refused)
-        }
+        Err(error) => refuse_input(alloc, AnswerForm::Words, input, error, writer, note),
     }
+}
+
+/// Writes the refusal of an input in this form, and appends the sentence that explains it to the note. Out of
+/// memory nothing is written.
+pub(crate) fn refuse_input<W: Write>(
+    alloc: Global,
+    form: AnswerForm,
+    input: &[u8],
+    error: ScriptError,
+    writer: &mut W,
+    note: &mut String,
+) -> Ended
+    ensures wrote { IfSome (refusal error) (λ why. IsLineWritten result (W.contents writer.old) (W.contents writer.new)
+        (refusal_text form (refused_bytes input.now why) why)) }
+    ensures note { IfSome (refusal error) (λ why. OnOk result
+        (IsNote note.old note.new (sentence (refused_bytes input.now why) why))) }
+    ensures outcome { IfOk result (λ outcome. outcome ≡ Outcome.Refused) }
+    ensures memory { refusal error ≡ None → IsErrAnd result (λ e. e ≡ DriveError.Memory)
+        × (W.contents writer.new ≡ W.contents writer.old) }
+{
+    let refusal = error.refusal()?;
+    let line = refused_bytes(input, refusal);
+    let explanation = explain_refusal(alloc, line, refusal)?;
+    note.push_str(explanation.as_str())?;
+    refuse_as(alloc, form, line, refusal, writer)?;
+    Ok(Outcome::Refused)
 }
 
 /// Carries out these commands on a scheduler that nobody needs afterwards, and writes the line of each
@@ -134,6 +181,61 @@ pub(crate) fn answer_command<W: Write>(
         RunCommand::Call(call) => make_call(sched, call, line, writer),
         RunCommand::Save => write_saved(alloc, sched, writer),
         RunCommand::List => write_list(alloc, sched, writer),
+    }
+}
+
+/// Carries out the command of a request, and writes its answer in this form. The request is in the line with
+/// this number. The line of a reply in words goes through the buffer `line`. With room for `REPLY_BYTES` in
+/// that buffer, `Memory` comes in words only from `save` and `list`, which change nothing. In JSON it may
+/// come after a call was made.
+pub(crate) fn answer_as<W: Write>(
+    alloc: Global,
+    form: AnswerForm,
+    number: usize,
+    sched: &mut Sched,
+    request: &Request,
+    line: &mut String,
+    writer: &mut W,
+) -> Result<(), DriveError>
+    ensures state { sched.new ≡ state_after_command sched.old request.now.command }
+    ensures wrote { IsLineWritten result (W.contents writer.old) (W.contents writer.new)
+        (answer_text form number sched.old (request_view request.now)) }
+    ensures capacity { string_capacity line.old ≤ string_capacity line.new }
+    ensures sufficient { form ≢ AnswerForm.Json → REPLY_BYTES ≤ string_capacity line.old
+        → IfErr result (λ e. e ≡ DriveError.Memory → sched.new ≡ sched.old) }
+{
+    match form {
+        AnswerForm::Words | AnswerForm::Explained => {
+            answer_command(alloc, sched, request.command, line, writer)
+        }
+        AnswerForm::Json => answer_as_json(alloc, number, sched, request, writer),
+    }
+}
+
+/// Carries out the command of a request, and writes its answer as JSON. The request is in the line with this
+/// number.
+fn answer_as_json<W: Write>(
+    alloc: Global,
+    number: usize,
+    sched: &mut Sched,
+    request: &Request,
+    writer: &mut W,
+) -> Result<(), DriveError>
+    ensures state { sched.new ≡ state_after_command sched.old request.now.command }
+    ensures wrote { IsLineWritten result (W.contents writer.old) (W.contents writer.new)
+        (json_line number sched.old (request_view request.now)) }
+{
+    let head = Head {
+        line: number,
+        id: request.id.as_ref(),
+    };
+    match request.command {
+        RunCommand::Call(call) => {
+            let reply = sched.apply(call);
+            write_json_reply(alloc, head, sched.setup(), call, reply, writer)
+        }
+        RunCommand::Save => write_json_saved(alloc, head, sched, writer),
+        RunCommand::List => write_json_list(alloc, head, sched, writer),
     }
 }
 

@@ -10,12 +10,12 @@ ghost use Rattle.nagsched_protocol.specs.LiveInput.{IsBoundedReading, rest_after
 ghost use Rattle.nagsched_protocol.specs.Script.{state_after_resume_at, with_setup_refusal};
 ghost use Rattle.nagsched_protocol.specs.Start.{CanStart};
 ghost use Rattle.nagsched_protocol.specs.LiveText.{line_answer, line_meaning, state_after_line};
-ghost use Rattle.nagsched_protocol.specs.Text.{refusal_line};
+ghost use Rattle.nagsched_protocol.specs.Forms.{refusal_text};
 ghost use Rattle.nagsched_run.specs.Live.{IsSpentAfterInput, IsSpentAfterSetup, IsSpentAfterLines, HasAnsweredLine, ConversationEnded, LeavesText};
 ghost use Rattle.nagsched_run.specs.Live.{LineFailed, AnsweringEnded, HasTakenDocument, IsContinuation, saved_at_start};
 ghost use Rattle.nagsched_protocol.specs.Streams.{streams};
 
-use crate::drive::answer_command;
+use crate::drive::answer_as;
 use crate::live_errors::{as_drive_result, as_live_result};
 use crate::next_line::take_next_line;
 use check_objects::Setup;
@@ -23,10 +23,10 @@ use check_saved_state::Saved;
 use check_sched::Sched;
 use json::Scratch;
 use nagsched_protocol::{
-    DriveError, Ended, InputBuffer, InputRefusal, LINE_PREFIX_BYTES, LineBuffer, LiveError,
-    Outcome, READ_BYTES, REPLY_BYTES, RunCommand, SAVED_PREFIX_BYTES, SETUP_PREFIX_BYTES,
-    ScriptError, Start, flush, open, read_buffered, read_saved, read_setup, resume, take_document,
-    write_refusal,
+    AnswerForm, DriveError, Ended, InputBuffer, InputRefusal, LINE_PREFIX_BYTES, LineBuffer,
+    LiveError, Outcome, READ_BYTES, REPLY_BYTES, SAVED_PREFIX_BYTES, SETUP_PREFIX_BYTES,
+    ScriptError, Start, flush, open, read_request, read_saved, read_setup, refuse_as, resume,
+    take_document,
 };
 use std::alloc::Global;
 use std::io::{Read, Write};
@@ -63,25 +63,32 @@ use std::io::{Read, Write};
 ///
 /// Input, text and commands are our own profile. The rules of the calls are those of check_sched, after
 /// the chapters of the Nagios Core 4 manual that it names.
-pub fn live<R: Read, W: Write>(alloc: Global, start: Start, reader: &mut R, writer: &mut W) -> Ended
+pub fn live<R: Read, W: Write>(
+    alloc: Global,
+    form: AnswerForm,
+    start: Start,
+    reader: &mut R,
+    writer: &mut W,
+) -> Ended
     requires { CanStart start }
-    ensures { ConversationEnded start result
+    ensures { ConversationEnded form start result
         (streams (R.remaining reader.old) (R.remaining reader.new)
         (W.contents writer.old) (W.contents writer.new)) }
 {
-    as_drive_result(converse(alloc, start, reader, writer))
+    as_drive_result(converse(alloc, form, start, reader, writer))
 }
 
 /// A conversation that distinguishes a spent loop from a fault of the reader. A loop is spent only if
 /// at least 2^64 - 3 bytes were given.
 fn converse<R: Read, W: Write>(
     alloc: Global,
+    form: AnswerForm,
     start: Start,
     reader: &mut R,
     writer: &mut W,
 ) -> Result<Outcome, LiveError>
     requires { CanStart start }
-    ensures conversation { ConversationEnded start (drive_result_of result)
+    ensures conversation { ConversationEnded form start (drive_result_of result)
         (streams (R.remaining reader.old) (R.remaining reader.new)
         (W.contents writer.old) (W.contents writer.new)) }
     ensures spent { IfErr result (IsSpentAfterInput (R.remaining reader.old) (R.remaining reader.new)) }
@@ -89,8 +96,10 @@ fn converse<R: Read, W: Write>(
     let mut buffered = InputBuffer::new(alloc);
     let (setup, whole) = read_setup_line(alloc, &mut buffered, reader)?;
     match setup {
-        Ok(setup) => continue_live(alloc, start, setup, whole, buffered, reader, writer),
-        Err(ScriptError::Refused(refusal)) => as_live_result(refuse(alloc, refusal, writer)),
+        Ok(setup) => { continue_live(alloc, form, start, setup, whole, buffered, reader, writer) }
+        Err(ScriptError::Refused(refusal)) => {
+            as_live_result(refuse(alloc, form, refusal, writer))
+        }
         Err(ScriptError::Memory) => Err(LiveError::Memory),
     }
 }
@@ -100,6 +109,7 @@ fn converse<R: Read, W: Write>(
 /// bytes were in the buffer or were given.
 fn continue_live<R: Read, W: Write>(
     alloc: Global,
+    form: AnswerForm,
     start: Start,
     setup: Setup,
     may_follow: bool,
@@ -110,7 +120,7 @@ fn continue_live<R: Read, W: Write>(
     requires start { CanStart start }
     requires end { may_follow ≡ false → (buffered ≡ []) × IsAtEnd (R.remaining reader.old) }
     requires bounded { length buffered ≤ READ_BYTES }
-    ensures continuation { IsContinuation start setup may_follow buffered result
+    ensures continuation { IsContinuation form start setup may_follow buffered result
         (streams (R.remaining reader.old) (R.remaining reader.new)
         (W.contents writer.old) (W.contents writer.new)) }
     ensures spent { IfErr result
@@ -118,10 +128,14 @@ fn continue_live<R: Read, W: Write>(
 {
     match start {
         Start::Fresh(moment) => {
-            continue_fresh(alloc, setup, moment, may_follow, buffered, reader, writer)
+            continue_fresh(
+                alloc, form, setup, moment, may_follow, buffered, reader, writer,
+            )
         }
         Start::Resumed(moment) => {
-            continue_resumed(alloc, setup, moment, may_follow, buffered, reader, writer)
+            continue_resumed(
+                alloc, form, setup, moment, may_follow, buffered, reader, writer,
+            )
         }
     }
 }
@@ -129,6 +143,7 @@ fn continue_live<R: Read, W: Write>(
 /// Continues after a setup with a new scheduler that starts at this moment.
 fn continue_fresh<R: Read, W: Write>(
     alloc: Global,
+    form: AnswerForm,
     setup: Setup,
     moment: u64,
     may_follow: bool,
@@ -138,14 +153,14 @@ fn continue_fresh<R: Read, W: Write>(
 ) -> Result<Outcome, LiveError>
     requires start { CanStart (Start.Fresh moment) }
     requires end { may_follow ≡ false → (buffered ≡ []) × IsAtEnd (R.remaining reader.old) }
-    ensures continuation { IsContinuation (Start.Fresh moment) setup may_follow buffered result
+    ensures continuation { IsContinuation form (Start.Fresh moment) setup may_follow buffered result
         (streams (R.remaining reader.old) (R.remaining reader.new)
         (W.contents writer.old) (W.contents writer.new)) }
     ensures spent { IfErr result
         (IsSpentAfterSetup buffered (R.remaining reader.old) (R.remaining reader.new)) }
 {
     match open(alloc, setup, moment) {
-        Ok(sched) => answer_with(alloc, sched, buffered, 2, may_follow, reader, writer),
+        Ok(sched) => answer_with(alloc, form, sched, buffered, 2, may_follow, reader, writer),
         Err(_) => Err(LiveError::Memory),
     }
 }
@@ -154,6 +169,7 @@ fn continue_fresh<R: Read, W: Write>(
 /// that line.
 fn continue_resumed<R: Read, W: Write>(
     alloc: Global,
+    form: AnswerForm,
     setup: Setup,
     moment: Option<u64>,
     may_follow: bool,
@@ -166,7 +182,7 @@ fn continue_resumed<R: Read, W: Write>(
     requires start { CanStart (Start.Resumed moment) }
     ensures spent { IfErr result
         (IsSpentAfterSetup buffered (R.remaining reader.old) (R.remaining reader.new)) }
-    ensures continuation { IsContinuation (Start.Resumed moment) setup may_follow buffered result
+    ensures continuation { IsContinuation form (Start.Resumed moment) setup may_follow buffered result
         (streams (R.remaining reader.old) (R.remaining reader.new)
         (W.contents writer.old) (W.contents writer.new)) }
 {
@@ -175,10 +191,10 @@ fn continue_resumed<R: Read, W: Write>(
     match saved {
         Ok(saved) => {
             continue_from_saved(
-                alloc, setup, moment, &saved, follow, buffered, reader, writer,
+                alloc, form, setup, moment, &saved, follow, buffered, reader, writer,
             )
         }
-        Err(ScriptError::Refused(why)) => as_live_result(refuse(alloc, why, writer)),
+        Err(ScriptError::Refused(why)) => as_live_result(refuse(alloc, form, why, writer)),
         Err(ScriptError::Memory) => Err(LiveError::Memory),
     }
 }
@@ -187,6 +203,7 @@ fn continue_resumed<R: Read, W: Write>(
 /// the scheduler can't be resumed because memory has run out, nothing is read or written.
 fn continue_from_saved<R: Read, W: Write>(
     alloc: Global,
+    form: AnswerForm,
     setup: Setup,
     moment: Option<u64>,
     saved: &Saved,
@@ -201,16 +218,16 @@ fn continue_from_saved<R: Read, W: Write>(
         × (R.remaining reader.new ≡ R.remaining reader.old)
         × (W.contents writer.new ≡ W.contents writer.old) }
     ensures lines { may_follow ≡ true
-        → AnsweringEnded 3 (state_after_resume_at setup saved.now moment) buffered
+        → AnsweringEnded form 3 (state_after_resume_at setup saved.now moment) buffered
         (streams (R.remaining reader.old) (R.remaining reader.new)
         (W.contents writer.old) (W.contents writer.new)) result }
     ensures spent { IfErr result
-        (IsSpentAfterLines 3 (state_after_resume_at setup saved.now moment) buffered
+        (IsSpentAfterLines form 3 (state_after_resume_at setup saved.now moment) buffered
         (streams (R.remaining reader.old) (R.remaining reader.new)
         (W.contents writer.old) (W.contents writer.new))) }
 {
     match resume(alloc, setup, saved, moment) {
-        Ok(sched) => answer_with(alloc, sched, buffered, 3, may_follow, reader, writer),
+        Ok(sched) => answer_with(alloc, form, sched, buffered, 3, may_follow, reader, writer),
         Err(_) => Err(LiveError::Memory),
     }
 }
@@ -219,6 +236,7 @@ fn continue_from_saved<R: Read, W: Write>(
 /// Otherwise nothing is read or written.
 fn answer_with<R: Read, W: Write>(
     alloc: Global,
+    form: AnswerForm,
     sched: Sched,
     buffered: InputBuffer,
     begins: usize,
@@ -231,27 +249,27 @@ fn answer_with<R: Read, W: Write>(
     ensures none { may_follow ≡ false → (result ≡ Ok Outcome.Ran)
         × (R.remaining reader.new ≡ R.remaining reader.old)
         × (W.contents writer.new ≡ W.contents writer.old) }
-    ensures lines { may_follow ≡ true → AnsweringEnded begins sched buffered
+    ensures lines { may_follow ≡ true → AnsweringEnded form begins sched buffered
         (streams (R.remaining reader.old) (R.remaining reader.new)
         (W.contents writer.old) (W.contents writer.new)) result }
-    ensures spent { IfErr result (IsSpentAfterLines begins sched buffered
+    ensures spent { IfErr result (IsSpentAfterLines form begins sched buffered
         (streams (R.remaining reader.old) (R.remaining reader.new)
         (W.contents writer.old) (W.contents writer.new))) }
 {
     let mut talk = Conversation::new(alloc, sched, buffered);
-    talk.answer_all(alloc, begins, may_follow, reader, writer)
+    talk.answer_all(alloc, form, begins, may_follow, reader, writer)
 }
 
-/// Writes the line of the refusal of a setup or of a saved state, and flushes the writer.
-fn refuse<W: Write>(alloc: Global, refusal: InputRefusal, writer: &mut W) -> Ended
+/// Writes the refusal of a setup or of a saved state in this form, and flushes the writer.
+fn refuse<W: Write>(alloc: Global, form: AnswerForm, refusal: InputRefusal, writer: &mut W) -> Ended
     ensures outcome { IfOk result (λ outcome. outcome ≡ Outcome.Refused) }
     ensures written { OnOk result
-        (Appends (W.contents writer.old) (W.contents writer.new) (refusal_line refusal)) }
+        (Appends (W.contents writer.old) (W.contents writer.new) (refusal_text form [] refusal)) }
     ensures fault { IfErr result (λ e. LeavesText e (W.contents writer.old) (W.contents writer.new)
-        (refusal_line refusal)) }
+        (refusal_text form [] refusal)) }
     ensures kind { IfErr result (λ e. e ≢ DriveError.Read) }
 {
-    write_refusal(alloc, refusal, writer)?;
+    refuse_as(alloc, form, &[], refusal, writer)?;
     flush(writer)?;
     Ok(Outcome::Refused)
 }
@@ -337,6 +355,7 @@ impl Conversation {
     fn answer_all<R: Read, W: Write>(
         &mut self,
         alloc: Global,
+        form: AnswerForm,
         begins: usize,
         may_follow: bool,
         reader: &mut R,
@@ -348,16 +367,16 @@ impl Conversation {
         ensures none { may_follow ≡ false → (result ≡ Ok Outcome.Ran)
             × (R.remaining reader.new ≡ R.remaining reader.old)
             × (W.contents writer.new ≡ W.contents writer.old) }
-        ensures lines { may_follow ≡ true → AnsweringEnded begins self.old.sched self.old.buffered
+        ensures lines { may_follow ≡ true → AnsweringEnded form begins self.old.sched self.old.buffered
             (streams (R.remaining reader.old) (R.remaining reader.new)
             (W.contents writer.old) (W.contents writer.new)) result }
-        ensures spent { IfErr result (IsSpentAfterLines begins self.old.sched self.old.buffered
+        ensures spent { IfErr result (IsSpentAfterLines form begins self.old.sched self.old.buffered
             (streams (R.remaining reader.old) (R.remaining reader.new)
             (W.contents writer.old) (W.contents writer.new))) }
     {
         if may_follow {
             self.reply = String::with_capacity(alloc, REPLY_BYTES)?;
-            self.answer_lines(alloc, begins, reader, writer)?;
+            self.answer_lines(alloc, form, begins, reader, writer)?;
         }
         Ok(Outcome::Ran)
     }
@@ -367,6 +386,7 @@ impl Conversation {
     fn answer_lines<R: Read, W: Write>(
         &mut self,
         alloc: Global,
+        form: AnswerForm,
         begins: usize,
         reader: &mut R,
         writer: &mut W,
@@ -374,15 +394,15 @@ impl Conversation {
         requires buffers { (self.old.line.most ≡ LINE_PREFIX_BYTES)
             × (REPLY_BYTES ≤ string_capacity self.old.reply) }
         requires begins { begins ≤ 3 }
-        ensures lines { AnsweringEnded begins self.old.sched self.old.buffered
+        ensures lines { AnsweringEnded form begins self.old.sched self.old.buffered
             (streams (R.remaining reader.old) (R.remaining reader.new)
             (W.contents writer.old) (W.contents writer.new)) result }
-        ensures spent { IfErr result (IsSpentAfterLines begins self.old.sched self.old.buffered
+        ensures spent { IfErr result (IsSpentAfterLines form begins self.old.sched self.old.buffered
             (streams (R.remaining reader.old) (R.remaining reader.new)
             (W.contents writer.old) (W.contents writer.new))) }
     {
         for number in begins..usize::MAX {
-            if !self.answer_next(alloc, number, reader, writer)? {
+            if !self.answer_next(alloc, form, number, reader, writer)? {
                 return as_live_result(flush(writer));
             }
         }
@@ -390,11 +410,12 @@ impl Conversation {
     }
 
     /// Takes the next line, which has this number, and writes its answer. Returns whether lines may
-    /// follow. If the buffer holds a whole line, the reader stays as it was. Out of memory, the
-    /// scheduler stays as it was, and nothing is written.
+    /// follow. If the buffer holds a whole line, the reader stays as it was. Out of memory nothing is
+    /// written, and with words the scheduler stays as it was. With JSON a call may have been made.
     fn answer_next<R: Read, W: Write>(
         &mut self,
         alloc: Global,
+        form: AnswerForm,
         number: usize,
         reader: &mut R,
         writer: &mut W,
@@ -403,64 +424,67 @@ impl Conversation {
             × (REPLY_BYTES ≤ string_capacity self.old.reply) }
         ensures reading { (bytes_read : List ℕ)
             × Consumes (R.remaining reader.old) (R.remaining reader.new) bytes_read
-            × IfOk result (λ more. HasAnsweredLine self.old.sched number (self.old.buffered ++ bytes_read) more
+            × IfOk result (λ more. HasAnsweredLine form self.old.sched number (self.old.buffered ++ bytes_read) more
             (R.remaining reader.new) self.new.sched self.new.buffered
             (W.contents writer.old) (W.contents writer.new))
             × IfErr result (IsLineReadingError bytes_read) }
         ensures no_read { has_feed self.old.buffered ≡ true → reader.new ≡ reader.old }
         ensures line { OnOk result (self.new.line.most ≡ LINE_PREFIX_BYTES) }
         ensures capacity { REPLY_BYTES ≤ string_capacity self.new.reply }
-        ensures fault { IfErr result (λ e. LineFailed self.old.sched number self.old.buffered
+        ensures fault { IfErr result (λ e. LineFailed form self.old.sched number self.old.buffered
             (R.remaining reader.old) (W.contents writer.old) (W.contents writer.new) (drive_error_of e)) }
         ensures memory { IfErr result (λ e. e ≡ LiveError.Memory
-            → (self.new.sched ≡ self.old.sched)
+            → (form ≢ AnswerForm.Json → self.new.sched ≡ self.old.sched)
             × Keeps (W.contents writer.old) (W.contents writer.new)) }
     {
         let whole = take_next_line(&mut self.buffered, &mut self.line, reader, writer)?;
-        as_live_result(self.answer(alloc, number, writer))?;
+        as_live_result(self.answer(alloc, form, number, writer))?;
         Ok(whole)
     }
 
-    /// Writes the answer to the line that was taken. The memory for a reply's line is there before its
-    /// call is made. A save or a list may run out of memory, and changes nothing.
+    /// Writes the answer to the line that was taken. The memory for a reply's line in words is there before
+    /// its call is made. A save or a list may run out of memory, and changes nothing.
     fn answer<W: Write>(
         &mut self,
         alloc: Global,
+        form: AnswerForm,
         number: usize,
         writer: &mut W,
     ) -> Result<(), DriveError>
         requires { REPLY_BYTES ≤ string_capacity self.old.reply }
         ensures answered { (text : List ℕ) → self.old.line ≡ prefix_of LINE_PREFIX_BYTES text
-            → OnOk result ((self.new.sched ≡ state_after_line self.old.sched (line_meaning self.old.sched number text))
+            → OnOk result ((self.new.sched
+            ≡ state_after_line self.old.sched (line_meaning form self.old.sched.setup number text))
             × Appends (W.contents writer.old) (W.contents writer.new)
-            (line_answer self.old.sched (line_meaning self.old.sched number text))) }
+            (line_answer form self.old.sched number text (line_meaning form self.old.sched.setup number text))) }
         ensures fault { (text : List ℕ) → self.old.line ≡ prefix_of LINE_PREFIX_BYTES text
             → IfErr result (λ e. LeavesText e (W.contents writer.old) (W.contents writer.new)
-            (line_answer self.old.sched (line_meaning self.old.sched number text))) }
+            (line_answer form self.old.sched number text (line_meaning form self.old.sched.setup number text))) }
         ensures kind { IfErr result (λ e. e ≢ DriveError.Read) }
         ensures buffered { self.new.buffered ≡ self.old.buffered }
         ensures line { self.new.line ≡ self.old.line }
         ensures capacity { REPLY_BYTES ≤ string_capacity self.new.reply }
         ensures memory { IfErr result (λ e. e ≡ DriveError.Memory
-            → (self.new.sched ≡ self.old.sched)
+            → (form ≢ AnswerForm.Json → self.new.sched ≡ self.old.sched)
             × Keeps (W.contents writer.old) (W.contents writer.new)) }
     {
-        match read_buffered::<RunCommand>(
-            alloc,
-            self.sched.setup(),
-            &self.line,
-            number,
-            &mut self.scratch,
-        ) {
+        let setup = self.sched.setup();
+        match read_request(alloc, form, setup, &self.line, number, &mut self.scratch) {
             Ok(None) => Ok(()),
-            Ok(Some(command)) => answer_command(
-                alloc,
-                &mut self.sched,
-                command,
-                &mut self.reply,
-                writer,
-            ),
-            Err(ScriptError::Refused(refusal)) => write_refusal(alloc, refusal, writer),
+            Ok(Some(request)) => {
+                answer_as(
+                    alloc,
+                    form,
+                    number,
+                    &mut self.sched,
+                    &request,
+                    &mut self.reply,
+                    writer,
+                )
+            }
+            Err(ScriptError::Refused(refusal)) => {
+                refuse_as(alloc, form, self.line.bytes(), refusal, writer)
+            }
             Err(ScriptError::Memory) => Err(DriveError::Memory),
         }
     }

@@ -15,4 +15,4 @@ returns-in-Err-clause-continuation g c =
 
 pub returns-in-Ok-clause-spent : goal.returns-in-Ok-clause-spent
 returns-in-Ok-clause-spent g c =
-    opened_later _ _ _ _ _ _ _ c.answer_with.ensures.spent
+    opened_later c.args.form _ _ _ _ _ _ _ c.answer_with.ensures.spent

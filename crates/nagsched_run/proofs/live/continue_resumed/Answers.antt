@@ -38,5 +38,5 @@ pub returns-in-Ok-clause-spent : goal.returns-in-Ok-clause-spent
 returns-in-Ok-clause-spent g c =
     let t = c.in_ok-saved.ensures.reading in
     let a = c.continue_from_saved.ensures in
-    answered_later _ _ _ t.0 _ _ _ _ _ c.in_ok-saved.follow t.4.1.follows t.1 (λ f. (a.none f).0)
+    answered_later c.args.form _ _ _ t.0 _ _ _ _ _ c.in_ok-saved.follow t.4.1.follows t.1 (λ f. (a.none f).0)
     (rw (t.4.1.buffer_is) at a.spent)

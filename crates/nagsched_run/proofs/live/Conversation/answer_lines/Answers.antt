@@ -36,7 +36,7 @@ returns-then-not-branch-clause-lines g c =
     c.flush.ensures.kind
 
 pub returns-then-not-branch-clause-spent : goal.returns-then-not-branch-clause-spent
-returns-then-not-branch-clause-spent g c = written_lines _ _ _ _ _ _ _ _ _ c.as_live_result.ensures
+returns-then-not-branch-clause-spent g c = written_lines c.args.form _ _ _ _ _ _ _ _ _ c.as_live_result.ensures
 
 pub returns-clause-lines : goal.returns-clause-lines
 returns-clause-lines g c = talk_spent _ _ _ _ _ _ _ _ _ _ errors.LinesSpent c.loop-number.invariant.0

@@ -19,7 +19,7 @@ pub returns-in_err-whole-clause-fault : goal.returns-in_err-whole-clause-fault
 returns-in_err-whole-clause-fault g c =
     let t = c.in_err-whole.ensures.reading in
     let p = err_from_is_err_and c.from_residual.result c.from_residual.ensures.1 in
-    rw (p.1, p.2) (untaken c.args.self.now.sched c.args.number c.args.self.now.buffered t.0 _ _ _ _ _ t.1 c.in_err-whole.ensures.kept)
+    rw (p.1, p.2) (untaken c.args.form c.args.self.now.sched c.args.number c.args.self.now.buffered t.0 _ _ _ _ _ t.1 c.in_err-whole.ensures.kept)
 
 pub returns-in_err-as_live_result-clause-reading : goal.returns-in_err-as_live_result-clause-reading
 returns-in_err-as_live_result-clause-reading g c =
@@ -35,7 +35,7 @@ returns-in_err-as_live_result-clause-fault g c =
     let line = first_line_of (c.args.self.now.buffered ++ t.0) in
     let kept = t.2.line_is ∙ ap (λ i. prefix_of i line) c.requires.0 in
     rw (p.1, p.2)
-    (unanswered c.args.self.now.sched c.args.number c.args.self.now.buffered t.0 _ _ _ _ _ _ c.in_ok-whole.whole t.1 t.2.whole_is t.2.ended
+    (unanswered c.args.form c.args.self.now.sched c.args.number c.args.self.now.buffered t.0 _ _ _ _ _ _ c.in_ok-whole.whole t.1 t.2.whole_is t.2.ended
     c.in_ok-whole.ensures.kept (written_err _ _ _ c.in_err-as_live_result.ensures (c.answer.ensures.fault line kept)))
 
 pub returns-clause-reading : goal.returns-clause-reading
