@@ -25,23 +25,24 @@ def now():
 
 
 class Scheduler:
-    """A conversation with `nagsched live`: one line there, one line back."""
+    """A conversation with `nagsched live --json`: one line there, one line back."""
 
     def __init__(self, program, setup):
         try:
-            self.process = subprocess.Popen([program, "live", "--start", str(now())], stdin=subprocess.PIPE, stdout=subprocess.PIPE, text=True)
+            self.process = subprocess.Popen([program, "live", "--json", "--start", str(now())], stdin=subprocess.PIPE, stdout=subprocess.PIPE, text=True)
         except OSError as error:
             raise SystemExit(f"monitor: {program} can't be run ({error.strerror}): name the program as the fourth argument") from None
         self.process.stdin.write(setup + "\n")
 
     def ask(self, *call):
-        """Makes a call, and returns the words of its answer."""
+        """Makes a call, and returns its answer."""
         self.process.stdin.write(json.dumps(call) + "\n")
         self.process.stdin.flush()
-        line = self.process.stdout.readline().rstrip("\n")
-        if not line or line.startswith(("refused L", "refused S")):
+        line = self.process.stdout.readline()
+        answer = json.loads(line) if line else {}
+        if not answer or answer.get("code", "C")[0] != "C":
             raise SystemExit(f"monitor: nagsched answered {line!r} to {call}")
-        return line.split(" ")
+        return answer
 
 
 def code_of(command):
@@ -61,24 +62,24 @@ def main(setup, commands, seconds="inf", program="nagsched"):
         while time.monotonic() < end:
             wait = 1.0
             while out < WORKERS:
-                word, *rest = scheduler.ask("take", now())
-                if word == "taken":
-                    run, name = int(rest[0]), " ".join(rest[1:])
+                taken = scheduler.ask("take", now())
+                if taken["answer"] == "taken":
+                    run, name = taken["run"], taken["name"]
                     check = workers.submit(code_of, lines.get(name, "exit 3"))
                     check.add_done_callback(lambda check, name=name, run=run: results.put((name, run, check.result())))
                     out += 1
-                elif word != "putoff":
-                    if word == "idle" and rest[0] != "none":
-                        wait = min(wait, max(0, int(rest[0]) - now()) / 1000)
+                elif taken["answer"] != "putoff":
+                    if taken.get("next_check") is not None:
+                        wait = min(wait, max(0, taken["next_check"] - now()) / 1000)
                     break
             try:
                 name, run, code = results.get(timeout=wait)
             except queue.Empty:
                 continue
             out -= 1
-            word, state, kind, attempt, changed, *_ = scheduler.ask("report", name, run, code)
-            if changed == "yes":
-                print(time.strftime("%H:%M:%S"), name, "is", state, kind, attempt, flush=True)
+            standing = scheduler.ask("report", name, run, code)
+            if standing.get("changed"):
+                print(time.strftime("%H:%M:%S"), name, "is", standing["state"], standing["kind"], standing["attempt"], flush=True)
 
 
 if __name__ == "__main__":

@@ -67,7 +67,7 @@ EXAMPLES = {
     ("conversation",): conversation,
     ("figures",): lambda ex: (ex["figures"], program_output([on_one_line(ex["whole-setup"])], "check", "--start", "1000")),
     ("drill-input", "drill-output"): lambda ex: (ex["drill-output"], program_output(ex["drill-input"].splitlines(), "drill", "--workers", "1")),
-    ("live-input", "live-output"): lambda ex: (ex["live-output"], program_output(ex["live-input"].splitlines(), "live")),
+    ("live-input", "live-output"): lambda ex: (ex["live-output"], program_output(ex["live-input"].splitlines(), "live", "--json")),
     ("save-input", "save-output"): lambda ex: (ex["save-output"], program_output(ex["save-input"].splitlines())),
 }
 

@@ -10,6 +10,8 @@ use Rattle.clap.specs.Words.{App, IsAmong, Row, Rule, Text, fault_of, first_of, 
 use Rattle.clap.specs.declared.builder.action.ArgAction.TheVariants as action
 use Rattle.clap.specs.declared.error.kind.ErrorKind.{ErrorKind}
 use Rattle.clap.specs.declared.error.kind.ErrorKind.TheVariants as kind
+use Rattle.nagsched_protocol.specs.declared.answer_form.AnswerForm.{AnswerForm}
+use Rattle.nagsched_protocol.specs.declared.answer_form.AnswerForm.TheVariants as forms
 use Rattle.nagsched_protocol.specs.declared.start.Start.{Start}
 use Rattle.nagsched_protocol.specs.declared.start.Start.TheVariants as start
 use Rattle.nagsched_protocol.specs.Start.{CanStart}
@@ -62,6 +64,10 @@ line_flag = flag_argument (codes "line")
 abbrev pub resume_flag : Rule
 resume_flag = flag_argument (codes "resume")
 
+-- the flag `--json`
+abbrev pub json_flag : Rule
+json_flag = flag_argument (codes "json")
+
 -- a subcommand of this name, with the option `--start` and the flag `--resume`
 abbrev pub subcommand_with_start : Text → App
 subcommand_with_start name = with_rule (with_rule (new_app name) optional_start_option) resume_flag
@@ -70,9 +76,9 @@ subcommand_with_start name = with_rule (with_rule (new_app name) optional_start_
 abbrev pub run_subcommand : App
 run_subcommand = subcommand_with_start (codes "run")
 
--- the subcommand `live`, with its option and its flag
+-- the subcommand `live`, with its option and its two flags
 abbrev pub live_subcommand : App
-live_subcommand = subcommand_with_start (codes "live")
+live_subcommand = with_rule (subcommand_with_start (codes "live")) json_flag
 
 -- the subcommand `check`, with its option and its two flags
 abbrev pub check_subcommand : App
@@ -150,9 +156,14 @@ scheduler_start_of options = option_map (start_from (has_resume_flag options)) (
 abbrev pub run_job_of : List Row → Option Job
 run_job_of options = option_map job.Run (scheduler_start_of options)
 
+-- the form of answers with this flag `--json`
+abbrev pub answer_form : Bool → AnswerForm
+answer_form true = forms.Json
+answer_form false = forms.Words
+
 -- `live`, by the options that were read for it
 abbrev pub live_job_of : List Row → Option Job
-live_job_of options = option_map job.Live (scheduler_start_of options)
+live_job_of options = option_map (λ how. job.Live how (answer_form (has_flag (codes "json") options))) (scheduler_start_of options)
 
 -- `check` with this flag `--line` and this start: a setup that is written as one line has no saved state
 abbrev pub check_job : Bool → Start → Option Job
@@ -189,7 +200,7 @@ requested_job words = job_of (subcommand_of program words)
 -- the numbers of a job are within their limits
 abbrev pub IsWithinLimits : Job → Type 0
 IsWithinLimits (job.Run how) = CanStart how
-IsWithinLimits (job.Live how) = CanStart how
+IsWithinLimits (job.Live how form) = CanStart how
 IsWithinLimits (job.Check how) = CanStart how
 IsWithinLimits job.SetupLine = ⊤
 IsWithinLimits job.Schema = ⊤

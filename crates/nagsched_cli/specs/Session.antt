@@ -38,7 +38,7 @@ IsSchemaOutput ended held holds = (schema : List ℕ) × NamesAll document_membe
 -- The effects of a job that ended like this, with or without a fault: the function of the job states them.
 abbrev pub JobEnded : Job → Result Outcome DriveError → Streams → Type 0
 JobEnded (job.Run how) ended io = RunEnded how ended io
-JobEnded (job.Live how) ended io = ConversationEnded how ended io
+JobEnded (job.Live how form) ended io = ConversationEnded form how ended io
 JobEnded (job.Check how) ended io = CheckEnded (IsReportFrom how) (check_input_of how) ended io
 JobEnded job.SetupLine ended io = CheckEnded IsSetupLineReport document_input_of ended io
 JobEnded (job.Drill start workers room) ended io = DrillEnded start workers room ended io

@@ -1,6 +1,6 @@
 //! The jobs that the program's arguments can ask for. The module `job` reads the arguments.
 
-use nagsched_protocol::Start;
+use nagsched_protocol::{AnswerForm, Start};
 use std::alloc::AllocError;
 use thiserror::Error;
 
@@ -11,9 +11,11 @@ pub enum Job {
     Run {
         start: Start,
     },
-    /// To answer lines one after another as they come, on a scheduler that starts like this, as above.
+    /// To answer lines one after another as they come, in this form, on a scheduler that starts like this, as
+    /// above.
     Live {
         start: Start,
+        form: AnswerForm,
     },
     /// To check a setup, and a saved state if the scheduler starts from one. The report says what the
     /// setup contains and what becomes of the saved objects in it, or why one of the two is refused.

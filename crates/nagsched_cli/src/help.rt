@@ -105,6 +105,8 @@ arrives, before more is read, and there is no limit on the whole.
   A line that isn't a command is answered with `refused CODE WHY LINE`, and
   changes nothing. The conversation continues.
   A blank line has no answer: don't wait for one.
+  With --json each answer is one JSON object on one line. `line` is the number
+  of the line that it answers, and `answer` its kind; the rest are its fields.
   A refused setup is answered with its line, and ends the conversation. So is a
   refused saved state, which is line 2 with --resume.
 It doesn't read while it writes: if you send more than a pipe holds, read the
@@ -197,6 +199,9 @@ pub(crate) const ABOUT_CHECK_RESUME: &str = "Checks a saved state too, which is 
 
 /// The help text of the flag `--line`.
 pub(crate) const ABOUT_LINE: &str = "Writes the setup as one line, for `run` and `live`";
+
+/// The help text of the flag `--json`.
+pub(crate) const ABOUT_JSON: &str = "Answers each line with one JSON object";
 
 /// The help text of the option `--workers`.
 pub(crate) const ABOUT_WORKERS: &str = "Workers, 1 to 64; N take N - 1 threads";

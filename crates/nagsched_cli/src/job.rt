@@ -6,7 +6,7 @@ ghost use Rattle.clap.specs.Words.{app_of, fault_of, kind_of, new_app, rows_of, 
 ghost use Rattle.clap.specs.Walk.{texts};
 ghost use Rattle.nagsched_cli.specs.Arguments.{program, run_subcommand, live_subcommand, check_subcommand, drill_subcommand, schema_subcommand};
 ghost use Rattle.nagsched_cli.specs.Arguments.{number_option, optional_start_option, subcommand_with_start};
-ghost use Rattle.nagsched_cli.specs.Arguments.{flag_argument, has_flag, has_resume_flag};
+ghost use Rattle.nagsched_cli.specs.Arguments.{answer_form, flag_argument, has_flag, has_resume_flag};
 ghost use Rattle.nagsched_protocol.specs.Start.{CanStart};
 ghost use Rattle.nagsched_cli.specs.Arguments.{check_job, optional_start_of, scheduler_start_of, start_of_text, start_from};
 ghost use Rattle.nagsched_cli.specs.Arguments.{requested_job, job_of, run_job_of, live_job_of, check_job_of, drill_job_of, drill_start_of, drill_workers_of};
@@ -15,13 +15,14 @@ ghost use Rattle.nagsched_cli.specs.Arguments.{option_number, number_between, Ex
 
 use crate::arguments::{Job, VERSION, WordsError};
 use crate::help::{
-    ABOUT_CHECK_RESUME, ABOUT_LINE, ABOUT_OPEN_START, ABOUT_RESUME, ABOUT_ROOM, ABOUT_START,
-    ABOUT_WORKERS, HELP, HELP_CHECK, HELP_DRILL, HELP_LIVE, HELP_RUN, HELP_SCHEMA, Help,
+    ABOUT_CHECK_RESUME, ABOUT_JSON, ABOUT_LINE, ABOUT_OPEN_START, ABOUT_RESUME, ABOUT_ROOM,
+    ABOUT_START, ABOUT_WORKERS, HELP, HELP_CHECK, HELP_DRILL, HELP_LIVE, HELP_RUN, HELP_SCHEMA,
+    Help,
 };
 use check_sched::LAST_MOMENT;
 use clap::error::ErrorKind;
 use clap::{Arg, ArgAction, ArgMatches, Command};
-use nagsched_protocol::Start;
+use nagsched_protocol::{AnswerForm, Start};
 use std::alloc::{AllocError, Global};
 
 /// The most workers that a drill may have.
@@ -33,7 +34,7 @@ const MAX_ROOM: u64 = 1_000_000;
 /// Reads the program's arguments. The first is the program's name. One of these follows it:
 ///
 /// - `run [--start N] [--resume]`
-/// - `live [--start N] [--resume]`
+/// - `live [--start N] [--resume] [--json]`
 /// - `check [--start N] [--line | --resume]`
 /// - `drill [--start N] [--workers N] [--room N]`
 /// - `schema`
@@ -96,7 +97,9 @@ fn build_live<'a>(alloc: Global) -> Result<Command<'a>, AllocError>
     ensures { IfOk result (λ c.
         (app_of c ≡ live_subcommand) × ((out-Command c).has_globals ≡ false)) }
 {
-    build_with_start(alloc, "live", HELP_LIVE, ABOUT_RESUME)
+    build_with_start(alloc, "live", HELP_LIVE, ABOUT_RESUME)?.arg(flag_argument(
+        alloc, "json", ABOUT_JSON,
+    ))
 }
 
 /// The subcommand `check`.
@@ -221,9 +224,22 @@ fn read_live(options: &ArgMatches<'_>) -> Option<Job>
     ensures request { result ≡ live_job_of (rows_of (found_of options.now)) }
     ensures limits { IfSome result IsWithinLimits }
 {
+    let start = read_scheduler_start(options)?;
     Some(Job::Live {
-        start: read_scheduler_start(options)?,
+        start,
+        form: answer_form(has_flag(options, "json")),
     })
+}
+
+/// The form of answers with this flag `--json`.
+fn answer_form(json: bool) -> AnswerForm
+    ensures { result ≡ answer_form json }
+{
+    if json {
+        AnswerForm::Json
+    } else {
+        AnswerForm::Words
+    }
 }
 
 /// The job of `check` with these options.

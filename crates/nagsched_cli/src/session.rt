@@ -77,8 +77,8 @@ fn do_job<H: Threads + Wait + Sync, R: Read, W: Write>(
         (W.contents writer.old) (W.contents writer.new)) }
 {
     match request {
-        Job::Run { start } => run(alloc, start, reader, writer),
-        Job::Live { start } => live(alloc, start, reader, writer),
+        Job::Run { start } => { let mut note = String::new(alloc); run(alloc, start, reader, writer, &mut note) }
+        Job::Live { start, form } => live(alloc, form, start, reader, writer),
         Job::Check { start } => check(alloc, start, reader, writer),
         Job::SetupLine => write_setup_line(alloc, reader, writer),
         Job::Drill {

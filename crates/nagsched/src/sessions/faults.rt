@@ -4,7 +4,7 @@ use super::devices::{FailingReader, KINDS, ShortWriter};
 use super::with_host;
 use nagsched_jobs::check::{check, write_setup_line};
 use nagsched_jobs::drill::drill;
-use nagsched_protocol::{DriveError, Outcome, Start};
+use nagsched_protocol::{AnswerForm, DriveError, Outcome, Start};
 use nagsched_run::drive::drive;
 use nagsched_run::live::live;
 use std::alloc::Global;
@@ -114,7 +114,7 @@ fn each_job_reports_a_reader_that_fails(rt: HostRuntime) -> Result<(), Fail> {
     let input = with_host(alloc, LINES)?;
     let reader = &mut failing_reader(input.as_bytes());
     let good = &mut ShortWriter::new(alloc, 100);
-    let talked = live(alloc, Start::Fresh(0), reader, good);
+    let talked = live(alloc, AnswerForm::Words, Start::Fresh(0), reader, good);
     assert_eq!(rt; talked, Err(DriveError::Read));
     for start in [Start::Fresh(0), Start::Resumed(None)] {
         let told = check(alloc, start, &mut failing_reader(b"{}"), good);
@@ -131,7 +131,13 @@ fn each_job_reports_a_writer_that_fails(rt: HostRuntime) -> Result<(), Fail> {
     let alloc = rt.alloc();
     let input = with_host(alloc, LINES)?;
     let writer = &mut failing_writer(alloc);
-    let talked = live(alloc, Start::Fresh(0), &mut input.as_bytes(), writer);
+    let talked = live(
+        alloc,
+        AnswerForm::Words,
+        Start::Fresh(0),
+        &mut input.as_bytes(),
+        writer,
+    );
     assert_eq!(rt; talked, Err(DriveError::Write));
     let told = write_setup_line(alloc, &mut b"{}".as_slice(), writer);
     assert_eq!(rt; told, Err(DriveError::Write));
