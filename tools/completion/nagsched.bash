@@ -1,7 +1,7 @@
 # Completion of the arguments of nagsched and nagsched-monitor, for bash.
 _nagsched() {
     local word=${COMP_WORDS[COMP_CWORD]} subcommand=${COMP_WORDS[1]:-}
-    local -A options=([run]="--start --resume --help" [live]="--start --resume --json --help" [check]="--start --line --resume --help" [drill]="--start --workers --room --help" [schema]="--help")
+    local -A options=([run]="--start --resume --json --help" [live]="--start --resume --json --explain --help" [check]="--start --line --resume --help" [drill]="--start --workers --room --help" [schema]="--help")
     if [ "$COMP_CWORD" -eq 1 ]; then
         mapfile -t COMPREPLY < <(compgen -W "${!options[*]} help --help --version" -- "$word")
     else

@@ -32,8 +32,8 @@ fn main(rt: HostRuntime) -> ExitCode {
 
 /// The session for the program's arguments, from standard input to standard output. Writes are
 /// gathered, and flushed once at the end. `live` also flushes before it reads again. Arguments that aren't
-/// text are refused. Standard error says in one sentence why arguments are refused, and which stream
-/// failed.
+/// text are refused. Standard error says in one sentence why arguments or the input of `run` are refused,
+/// and which stream failed.
 fn run_program<R: Env + Input + Print + Eprint + AllocGlobal + Threads + Wait + Sync>(
     rt: &R,
 ) -> u8 {
@@ -69,7 +69,11 @@ fn run_session<R: Input + Eprint + Threads + Wait + Sync, W: Write>(
     output: &mut Device<W>,
 ) -> u8 {
     let mut input = Device::new(rt.reader());
-    let ended = session(rt, alloc, words, &mut input, output);
+    let mut note = String::new(alloc);
+    let ended = session(rt, alloc, words, &mut input, output, &mut note);
+    if !note.is_empty() {
+        say(rt, note.as_str());
+    }
     match ended {
         Ok(Ending::RefusedWords) => {
             if let Ok(text) = explain_arguments(alloc, words) {
@@ -91,8 +95,13 @@ fn explain_words<R: Eprint>(rt: &R, text: &str) {
 /// Says on standard error which stream failed. If it can't be written, nothing is said.
 fn explain_stream<R: Eprint>(rt: &R, alloc: Global, stream: Stream, kind: Option<ErrorKind>) {
     if let Ok(text) = explain_device(alloc, stream, kind) {
-        let _ = rt.eprintln(format_args!("nagsched: {text}"));
+        say(rt, text.as_str());
     }
+}
+
+/// Says this on standard error. If it can't be written, nothing is said.
+fn say<R: Eprint>(rt: &R, text: &str) {
+    let _ = rt.eprintln(format_args!("nagsched: {text}"));
 }
 
 /// The words as texts, all of them, in their order.

@@ -38,9 +38,11 @@ named_switch name = if bytes_eq name (codes "--help") || bytes_eq name (codes "-
     else (if bytes_eq name (codes "--version") || bytes_eq name (codes "-V") then Some switch.Version
     else (if bytes_eq name (codes "--start") then Some switch.Start
     else (if bytes_eq name (codes "--resume") then Some switch.Resume
+    else (if bytes_eq name (codes "--json") then Some switch.Json
+    else (if bytes_eq name (codes "--explain") then Some switch.Explain
     else (if bytes_eq name (codes "--line") then Some switch.Line
     else (if bytes_eq name (codes "--workers") then Some switch.Workers
-    else (if bytes_eq name (codes "--room") then Some switch.Room else None))))))
+    else (if bytes_eq name (codes "--room") then Some switch.Room else None))))))))
 
 -- the long name of an option
 abbrev pub switch_name : Switch → Text
@@ -48,6 +50,8 @@ switch_name switch.Help = codes "--help"
 switch_name switch.Version = codes "--version"
 switch_name switch.Start = codes "--start"
 switch_name switch.Resume = codes "--resume"
+switch_name switch.Json = codes "--json"
+switch_name switch.Explain = codes "--explain"
 switch_name switch.Line = codes "--line"
 switch_name switch.Workers = codes "--workers"
 switch_name switch.Room = codes "--room"
@@ -55,8 +59,8 @@ switch_name switch.Room = codes "--room"
 -- the names of the options of a command, or of the program
 abbrev pub option_names : Topic → List Text
 option_names topic.Program = codes "--help" ∷ codes "--version" ∷ []
-option_names topic.Run = codes "--start" ∷ codes "--resume" ∷ codes "--help" ∷ []
-option_names topic.Live = codes "--start" ∷ codes "--resume" ∷ codes "--help" ∷ []
+option_names topic.Run = codes "--start" ∷ codes "--resume" ∷ codes "--json" ∷ codes "--help" ∷ []
+option_names topic.Live = codes "--start" ∷ codes "--resume" ∷ codes "--json" ∷ codes "--explain" ∷ codes "--help" ∷ []
 option_names topic.Check = codes "--start" ∷ codes "--resume" ∷ codes "--line" ∷ codes "--help" ∷ []
 option_names topic.Drill = codes "--start" ∷ codes "--workers" ∷ codes "--room" ∷ codes "--help" ∷ []
 option_names topic.Schema = codes "--help" ∷ []
@@ -78,8 +82,8 @@ read_commands app = map (λ shape. shape.name) app.subs ++ codes "help" ∷ []
 -- what a command takes, or the program, in words
 abbrev pub taken_text : Topic → Text
 taken_text topic.Program = codes "a command or the options --help and --version"
-taken_text topic.Run = codes "the options --start N, --resume and --help"
-taken_text topic.Live = codes "the options --start N, --resume and --help"
+taken_text topic.Run = codes "the options --start N, --resume, --json and --help"
+taken_text topic.Live = codes "the options --start N, --resume, --json, --explain and --help"
 taken_text topic.Check = codes "the options --start N, --line, --resume and --help"
 taken_text topic.Drill = codes "the options --start N, --workers N, --room N and --help"
 taken_text topic.Schema = codes "the option --help"
@@ -91,6 +95,8 @@ owners_text switch.Help = codes "nagsched, run, live, check, drill and schema"
 owners_text switch.Version = codes "nagsched"
 owners_text switch.Start = codes "run, live, check and drill"
 owners_text switch.Resume = codes "run, live and check"
+owners_text switch.Json = codes "run and live"
+owners_text switch.Explain = codes "live"
 owners_text switch.Line = codes "check"
 owners_text switch.Workers = codes "drill"
 owners_text switch.Room = codes "drill"

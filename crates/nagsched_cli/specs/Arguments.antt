@@ -68,17 +68,25 @@ resume_flag = flag_argument (codes "resume")
 abbrev pub json_flag : Rule
 json_flag = flag_argument (codes "json")
 
+-- the flag `--explain`
+abbrev pub explain_flag : Rule
+explain_flag = flag_argument (codes "explain")
+
 -- a subcommand of this name, with the option `--start` and the flag `--resume`
 abbrev pub subcommand_with_start : Text → App
 subcommand_with_start name = with_rule (with_rule (new_app name) optional_start_option) resume_flag
 
--- the subcommand `run`, with its option and its flag
-abbrev pub run_subcommand : App
-run_subcommand = subcommand_with_start (codes "run")
+-- a subcommand of this name, with these and the flag `--json`
+abbrev pub subcommand_with_json : Text → App
+subcommand_with_json name = with_rule (subcommand_with_start name) json_flag
 
--- the subcommand `live`, with its option and its two flags
+-- the subcommand `run`, with its option and its two flags
+abbrev pub run_subcommand : App
+run_subcommand = subcommand_with_json (codes "run")
+
+-- the subcommand `live`, with its option and its three flags
 abbrev pub live_subcommand : App
-live_subcommand = with_rule (subcommand_with_start (codes "live")) json_flag
+live_subcommand = with_rule (subcommand_with_json (codes "live")) explain_flag
 
 -- the subcommand `check`, with its option and its two flags
 abbrev pub check_subcommand : App
@@ -152,18 +160,28 @@ start_from false moment = start.Fresh (unwrap_or moment 0)
 abbrev pub scheduler_start_of : List Row → Option Start
 scheduler_start_of options = option_map (start_from (has_resume_flag options)) (optional_start_of options)
 
+-- whether `--json` was given
+abbrev pub has_json_flag : List Row → Bool
+has_json_flag options = has_flag (codes "json") options
+
+-- whether `--explain` was given
+abbrev pub has_explain_flag : List Row → Bool
+has_explain_flag options = has_flag (codes "explain") options
+
+-- the form of answers with these flags `--json` and `--explain`; JSON explains refusals anyway
+abbrev pub answer_form : Bool → Bool → AnswerForm
+answer_form true explains = forms.Json
+answer_form false true = forms.Explained
+answer_form false false = forms.Words
+
 -- `run`, by the options that were read for it
 abbrev pub run_job_of : List Row → Option Job
-run_job_of options = option_map job.Run (scheduler_start_of options)
-
--- the form of answers with this flag `--json`
-abbrev pub answer_form : Bool → AnswerForm
-answer_form true = forms.Json
-answer_form false = forms.Words
+run_job_of options = option_map (λ how. job.Run how (answer_form (has_json_flag options) false)) (scheduler_start_of options)
 
 -- `live`, by the options that were read for it
 abbrev pub live_job_of : List Row → Option Job
-live_job_of options = option_map (λ how. job.Live how (answer_form (has_flag (codes "json") options))) (scheduler_start_of options)
+live_job_of options =
+    option_map (λ how. job.Live how (answer_form (has_json_flag options) (has_explain_flag options))) (scheduler_start_of options)
 
 -- `check` with this flag `--line` and this start: a setup that is written as one line has no saved state
 abbrev pub check_job : Bool → Start → Option Job
@@ -184,7 +202,7 @@ drill_job_of options = option_and_then (λ start.
 
 -- the job of a subcommand with its options; without a subcommand it is `run` from the start 0
 abbrev pub job_of : Option (Text × List Row) → Option Job
-job_of None = Some (job.Run (start.Fresh 0))
+job_of None = Some (job.Run (start.Fresh 0) forms.Words)
 job_of (Some (name, options)) =
     if bytes_eq name (codes "run") then run_job_of options
     else (if bytes_eq name (codes "live") then live_job_of options
@@ -199,7 +217,7 @@ requested_job words = job_of (subcommand_of program words)
 
 -- the numbers of a job are within their limits
 abbrev pub IsWithinLimits : Job → Type 0
-IsWithinLimits (job.Run how) = CanStart how
+IsWithinLimits (job.Run how form) = CanStart how
 IsWithinLimits (job.Live how form) = CanStart how
 IsWithinLimits (job.Check how) = CanStart how
 IsWithinLimits job.SetupLine = ⊤

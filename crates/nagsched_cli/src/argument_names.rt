@@ -28,6 +28,8 @@ pub enum Switch {
     Version,
     Start,
     Resume,
+    Json,
+    Explain,
     Line,
     Workers,
     Room,
@@ -86,6 +88,8 @@ pub(crate) fn named_switch(name: &str) -> Option<Switch>
         "--version" | "-V" => Some(Switch::Version),
         "--start" => Some(Switch::Start),
         "--resume" => Some(Switch::Resume),
+        "--json" => Some(Switch::Json),
+        "--explain" => Some(Switch::Explain),
         "--line" => Some(Switch::Line),
         "--workers" => Some(Switch::Workers),
         "--room" => Some(Switch::Room),
@@ -102,6 +106,8 @@ pub(crate) fn switch_name(switch: Switch) -> &'static str
         Switch::Version => "--version",
         Switch::Start => "--start",
         Switch::Resume => "--resume",
+        Switch::Json => "--json",
+        Switch::Explain => "--explain",
         Switch::Line => "--line",
         Switch::Workers => "--workers",
         Switch::Room => "--room",
@@ -128,7 +134,8 @@ pub(crate) fn option_names(topic: Topic) -> &'static [&'static str]
 {
     match topic {
         Topic::Program => &["--help", "--version"],
-        Topic::Run | Topic::Live => &["--start", "--resume", "--help"],
+        Topic::Run => &["--start", "--resume", "--json", "--help"],
+        Topic::Live => &["--start", "--resume", "--json", "--explain", "--help"],
         Topic::Check => &["--start", "--resume", "--line", "--help"],
         Topic::Drill => &["--start", "--workers", "--room", "--help"],
         Topic::Schema => &["--help"],
@@ -142,7 +149,8 @@ pub(crate) fn taken_text(topic: Topic) -> &'static str
 {
     match topic {
         Topic::Program => "a command or the options --help and --version",
-        Topic::Run | Topic::Live => "the options --start N, --resume and --help",
+        Topic::Run => "the options --start N, --resume, --json and --help",
+        Topic::Live => "the options --start N, --resume, --json, --explain and --help",
         Topic::Check => "the options --start N, --line, --resume and --help",
         Topic::Drill => "the options --start N, --workers N, --room N and --help",
         Topic::Schema => "the option --help",
@@ -159,6 +167,8 @@ pub(crate) fn owners_text(switch: Switch) -> &'static str
         Switch::Version => "nagsched",
         Switch::Start => "run, live, check and drill",
         Switch::Resume => "run, live and check",
+        Switch::Json => "run and live",
+        Switch::Explain => "live",
         Switch::Line => "check",
         Switch::Workers | Switch::Room => "drill",
     }

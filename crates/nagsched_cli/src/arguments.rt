@@ -7,9 +7,11 @@ use thiserror::Error;
 /// A job that the program's arguments ask for.
 #[derive(Clone, Copy, Debug, PartialEq, Eq)]
 pub enum Job {
-    /// To make the calls of a script on a scheduler that starts like this, at a moment from 0 to 2^60.
+    /// To make the calls of a script on a scheduler that starts like this, at a moment from 0 to 2^60, and to
+    /// answer in this form. A run doesn't explain refusals in its answers, so its form is words or JSON.
     Run {
         start: Start,
+        form: AnswerForm,
     },
     /// To answer lines one after another as they come, in this form, on a scheduler that starts like this, as
     /// above.

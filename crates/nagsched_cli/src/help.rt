@@ -82,6 +82,7 @@ Input after the setup, one call per line; moments and times in milliseconds:
   [\"save\"]                        asks for the state to save; isn't a call
   [\"list\"]                        asks for all objects; isn't a call
 With --resume line 2 is a saved state, as `saved` wrote it without that word.
+With --json the lines and the answers are those of `nagsched live --json`.
 
 Output, one line per call:
   taken RUN NAME        putoff TIME NAME        idle TIME        atlimit
@@ -107,6 +108,8 @@ arrives, before more is read, and there is no limit on the whole.
   A blank line has no answer: don't wait for one.
   With --json each answer is one JSON object on one line. `line` is the number
   of the line that it answers, and `answer` its kind; the rest are its fields.
+  A refusal has `explanation`. A request may end with {\"id\":..}, a text or a
+  whole number, which its answer repeats.
   A refused setup is answered with its line, and ends the conversation. So is a
   refused saved state, which is line 2 with --resume.
 It doesn't read while it writes: if you send more than a pipe holds, read the
@@ -202,6 +205,9 @@ pub(crate) const ABOUT_LINE: &str = "Writes the setup as one line, for `run` and
 
 /// The help text of the flag `--json`.
 pub(crate) const ABOUT_JSON: &str = "Answers each line with one JSON object";
+
+/// The help text of the flag `--explain`.
+pub(crate) const ABOUT_EXPLAIN: &str = "Explains each refusal on a second line, `explained WHY`";
 
 /// The help text of the option `--workers`.
 pub(crate) const ABOUT_WORKERS: &str = "Workers, 1 to 64; N take N - 1 threads";

@@ -5,8 +5,8 @@ ghost use Rattle.clap.specs.declared.builder.command.Command.TheViews.{out-Comma
 ghost use Rattle.clap.specs.Words.{app_of, fault_of, kind_of, new_app, rows_of, rule_of, found_of, subcommand_rows_of, with_subcommand};
 ghost use Rattle.clap.specs.Walk.{texts};
 ghost use Rattle.nagsched_cli.specs.Arguments.{program, run_subcommand, live_subcommand, check_subcommand, drill_subcommand, schema_subcommand};
-ghost use Rattle.nagsched_cli.specs.Arguments.{number_option, optional_start_option, subcommand_with_start};
-ghost use Rattle.nagsched_cli.specs.Arguments.{answer_form, flag_argument, has_flag, has_resume_flag};
+ghost use Rattle.nagsched_cli.specs.Arguments.{number_option, optional_start_option, subcommand_with_json, subcommand_with_start};
+ghost use Rattle.nagsched_cli.specs.Arguments.{answer_form, flag_argument, has_explain_flag, has_flag, has_json_flag, has_resume_flag};
 ghost use Rattle.nagsched_protocol.specs.Start.{CanStart};
 ghost use Rattle.nagsched_cli.specs.Arguments.{check_job, optional_start_of, scheduler_start_of, start_of_text, start_from};
 ghost use Rattle.nagsched_cli.specs.Arguments.{requested_job, job_of, run_job_of, live_job_of, check_job_of, drill_job_of, drill_start_of, drill_workers_of};
@@ -15,9 +15,9 @@ ghost use Rattle.nagsched_cli.specs.Arguments.{option_number, number_between, Ex
 
 use crate::arguments::{Job, VERSION, WordsError};
 use crate::help::{
-    ABOUT_CHECK_RESUME, ABOUT_JSON, ABOUT_LINE, ABOUT_OPEN_START, ABOUT_RESUME, ABOUT_ROOM,
-    ABOUT_START, ABOUT_WORKERS, HELP, HELP_CHECK, HELP_DRILL, HELP_LIVE, HELP_RUN, HELP_SCHEMA,
-    Help,
+    ABOUT_CHECK_RESUME, ABOUT_EXPLAIN, ABOUT_JSON, ABOUT_LINE, ABOUT_OPEN_START, ABOUT_RESUME,
+    ABOUT_ROOM, ABOUT_START, ABOUT_WORKERS, HELP, HELP_CHECK, HELP_DRILL, HELP_LIVE, HELP_RUN,
+    HELP_SCHEMA, Help,
 };
 use check_sched::LAST_MOMENT;
 use clap::error::ErrorKind;
@@ -33,8 +33,8 @@ const MAX_ROOM: u64 = 1_000_000;
 
 /// Reads the program's arguments. The first is the program's name. One of these follows it:
 ///
-/// - `run [--start N] [--resume]`
-/// - `live [--start N] [--resume] [--json]`
+/// - `run [--start N] [--resume] [--json]`
+/// - `live [--start N] [--resume] [--json] [--explain]`
 /// - `check [--start N] [--line | --resume]`
 /// - `drill [--start N] [--workers N] [--room N]`
 /// - `schema`
@@ -89,7 +89,7 @@ fn build_run<'a>(alloc: Global) -> Result<Command<'a>, AllocError>
     ensures { IfOk result (λ c.
         (app_of c ≡ run_subcommand) × ((out-Command c).has_globals ≡ false)) }
 {
-    build_with_start(alloc, "run", HELP_RUN, ABOUT_RESUME)
+    build_with_json(alloc, "run", HELP_RUN)
 }
 
 /// The subcommand `live`.
@@ -97,9 +97,15 @@ fn build_live<'a>(alloc: Global) -> Result<Command<'a>, AllocError>
     ensures { IfOk result (λ c.
         (app_of c ≡ live_subcommand) × ((out-Command c).has_globals ≡ false)) }
 {
-    build_with_start(alloc, "live", HELP_LIVE, ABOUT_RESUME)?.arg(flag_argument(
-        alloc, "json", ABOUT_JSON,
-    ))
+    build_with_json(alloc, "live", HELP_LIVE)?.arg(flag_argument(alloc, "explain", ABOUT_EXPLAIN))
+}
+
+/// A subcommand of this name with this help, with the option `--start` and the flags `--resume` and `--json`.
+fn build_with_json<'a>(alloc: Global, name: &'a str, help: Help) -> Result<Command<'a>, AllocError>
+    ensures { IfOk result (λ c.
+        (app_of c ≡ subcommand_with_json name.now) × ((out-Command c).has_globals ≡ false)) }
+{
+    build_with_start(alloc, name, help, ABOUT_RESUME)?.arg(flag_argument(alloc, "json", ABOUT_JSON))
 }
 
 /// The subcommand `check`.
@@ -199,6 +205,7 @@ fn read_job(matches: &ArgMatches<'_>) -> Result<Job, WordsError>
     match matches.subcommand() {
         None => Ok(Job::Run {
             start: Start::Fresh(0),
+            form: AnswerForm::Words,
         }),
         Some(("run", options)) => read_run(options).ok_or(WordsError::Refused),
         Some(("live", options)) => read_live(options).ok_or(WordsError::Refused),
@@ -214,8 +221,10 @@ fn read_run(options: &ArgMatches<'_>) -> Option<Job>
     ensures request { result ≡ run_job_of (rows_of (found_of options.now)) }
     ensures limits { IfSome result IsWithinLimits }
 {
+    let start = read_scheduler_start(options)?;
     Some(Job::Run {
-        start: read_scheduler_start(options)?,
+        start,
+        form: answer_form(has_json_flag(options), false),
     })
 }
 
@@ -227,18 +236,18 @@ fn read_live(options: &ArgMatches<'_>) -> Option<Job>
     let start = read_scheduler_start(options)?;
     Some(Job::Live {
         start,
-        form: answer_form(has_flag(options, "json")),
+        form: answer_form(has_json_flag(options), has_explain_flag(options)),
     })
 }
 
-/// The form of answers with this flag `--json`.
-fn answer_form(json: bool) -> AnswerForm
-    ensures { result ≡ answer_form json }
+/// The form of answers with these flags `--json` and `--explain`. JSON explains refusals anyway.
+fn answer_form(json: bool, explains: bool) -> AnswerForm
+    ensures { result ≡ answer_form json explains }
 {
-    if json {
-        AnswerForm::Json
-    } else {
-        AnswerForm::Words
+    match (json, explains) {
+        (true, _) => AnswerForm::Json,
+        (false, true) => AnswerForm::Explained,
+        (false, false) => AnswerForm::Words,
     }
 }
 
@@ -330,6 +339,20 @@ fn has_resume_flag(options: &ArgMatches<'_>) -> bool
     ensures { result ≡ has_resume_flag (rows_of (found_of options.now)) }
 {
     has_flag(options, "resume")
+}
+
+/// Whether the flag `--json` was given.
+fn has_json_flag(options: &ArgMatches<'_>) -> bool
+    ensures { result ≡ has_json_flag (rows_of (found_of options.now)) }
+{
+    has_flag(options, "json")
+}
+
+/// Whether the flag `--explain` was given.
+fn has_explain_flag(options: &ArgMatches<'_>) -> bool
+    ensures { result ≡ has_explain_flag (rows_of (found_of options.now)) }
+{
+    has_flag(options, "explain")
 }
 
 /// Whether a flag was given.

@@ -1,19 +1,22 @@
 //! Does the job that the program's arguments ask for, and gives the exit status.
 
-ghost use Rattle.std.specs.Prelude.{◌≡◌, codes, OnOk, OnErr, IsOkUnless};
+ghost use Rattle.std.specs.Prelude.{◌≡◌, ℕ, List, codes, OnOk, OnErr, IsOkUnless};
 ghost use Rattle.std.specs.Io.KnownBytes.{Appends};
 ghost use Rattle.clap.specs.Walk.{texts};
 ghost use Rattle.nagsched_protocol.specs.Output.{WroteFront};
+ghost use Rattle.nagsched_protocol.specs.Start.{CanStart};
 ghost use Rattle.nagsched_protocol.specs.Streams.{streams};
-ghost use Rattle.nagsched_cli.specs.Session.{exit_status, SessionEnds, JobEnded, IsSchemaOutput, IsJobTextOutput, IsWordsOutput};
+ghost use Rattle.nagsched_run.specs.Drive.{IsNote};
+ghost use Rattle.nagsched_cli.specs.Session.{exit_status, SessionEnds, JobEnded, RunNoted, IsSchemaOutput, IsJobTextOutput, IsWordsOutput};
 ghost use Rattle.nagsched_cli.specs.Arguments.{IsWithinLimits};
 
 use crate::arguments::{Job, WordsError};
 use crate::job::job;
 use nagsched_jobs::check::{check, write_setup_line};
 use nagsched_jobs::drill::drill;
-use nagsched_protocol::{DriveError, Ended, Outcome, print_text};
+use nagsched_protocol::{AnswerForm, DriveError, Ended, Outcome, Start, print_text};
 use nagsched_run::drive::run;
+use nagsched_run::json_run::run_as_json;
 use nagsched_run::live::live;
 use setup_diagnostics::json_schema;
 use std::alloc::Global;
@@ -42,6 +45,8 @@ pub enum Ending {
 /// `write_setup_line` or `drill` says about that error. Without a job, and if the job is the schema, the
 /// reader is as it was, and the writer has got nothing or a prefix of the text.
 ///
+/// If a run refuses its input, `note` gets the sentence that explains why.
+///
 /// `rt` is the machine that starts threads and waits, which only a drill uses.
 pub fn session<H: Threads + Wait + Sync, R: Read, W: Write>(
     rt: &H,
@@ -49,35 +54,39 @@ pub fn session<H: Threads + Wait + Sync, R: Read, W: Write>(
     words: &[&str],
     reader: &mut R,
     writer: &mut W,
+    note: &mut String,
 ) -> Result<Ending, DriveError>
-    ensures { SessionEnds (texts words.now) result
+    ensures { (noted : List ℕ) × OnOk result (IsNote note.old note.new noted)
+        × SessionEnds (texts words.now) result
         (streams (R.remaining reader.old) (R.remaining reader.new)
-        (W.contents writer.old) (W.contents writer.new)) }
+        (W.contents writer.old) (W.contents writer.new)) noted }
 {
     match job(alloc, words) {
         Ok(request) => {
-            let outcome = do_job(rt, alloc, request, reader, writer)?;
+            let outcome = do_job(rt, alloc, request, reader, writer, note)?;
             Ok(Ending::RunEnded(outcome))
         }
         Err(error) => print_words_error(error, writer),
     }
 }
 
-/// Does a job.
+/// Does a job. A run that refuses its input notes why.
 fn do_job<H: Threads + Wait + Sync, R: Read, W: Write>(
     rt: &H,
     alloc: Global,
     request: Job,
     reader: &mut R,
     writer: &mut W,
+    note: &mut String,
 ) -> Ended
     requires { IsWithinLimits request }
-    ensures { JobEnded request result
+    ensures { (noted : List ℕ) × OnOk result (IsNote note.old note.new noted)
+        × JobEnded request result
         (streams (R.remaining reader.old) (R.remaining reader.new)
-        (W.contents writer.old) (W.contents writer.new)) }
+        (W.contents writer.old) (W.contents writer.new)) noted }
 {
     match request {
-        Job::Run { start } => { let mut note = String::new(alloc); run(alloc, start, reader, writer, &mut note) }
+        Job::Run { start, form } => run_as(alloc, form, start, reader, writer, note),
         Job::Live { start, form } => live(alloc, form, start, reader, writer),
         Job::Check { start } => check(alloc, start, reader, writer),
         Job::SetupLine => write_setup_line(alloc, reader, writer),
@@ -87,6 +96,28 @@ fn do_job<H: Threads + Wait + Sync, R: Read, W: Write>(
             room,
         } => drill(rt, alloc, start, workers, room, reader, writer),
         Job::Schema => print_schema(alloc, writer),
+    }
+}
+
+/// Runs a script, and answers it in this form. The lines of a run don't explain refusals, so its form is words
+/// or JSON.
+fn run_as<R: Read, W: Write>(
+    alloc: Global,
+    form: AnswerForm,
+    start: Start,
+    reader: &mut R,
+    writer: &mut W,
+    note: &mut String,
+) -> Ended
+    requires { CanStart start }
+    ensures { (noted : List ℕ) × OnOk result (IsNote note.old note.new noted)
+        × RunNoted form start result
+        (streams (R.remaining reader.old) (R.remaining reader.new)
+        (W.contents writer.old) (W.contents writer.new)) noted }
+{
+    match form {
+        AnswerForm::Words | AnswerForm::Explained => run(alloc, start, reader, writer, note),
+        AnswerForm::Json => run_as_json(alloc, start, reader, writer, note),
     }
 }
 

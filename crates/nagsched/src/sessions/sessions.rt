@@ -24,7 +24,8 @@ fn status_and_rest(
     writer: &mut ShortWriter,
 ) -> (u8, usize) {
     let mut reader = input.as_bytes();
-    let ended = session(rt, alloc, words, &mut reader, writer);
+    let mut note = String::new(alloc);
+    let ended = session(rt, alloc, words, &mut reader, writer, &mut note);
     (exit_status(ended), reader.len())
 }
 
