@@ -1,5 +1,5 @@
 -- Whether an object is blocked, by its own dependencies and by those that inherit.
-use Rattle.std.proofs.Common.{◌≡◌, ℕ, zero, suc, ◌<◌, ◌&&◌, ◌||◌, Bool, true, false, List, [], ◌∷◌, refl, sym, ap, ◌∙◌, arith, inl, inr}
+use Rattle.std.proofs.Common.{◌≡◌, ℕ, zero, suc, ◌<◌, ◌&&◌, ◌||◌, Bool, true, false, List, [], ◌∷◌, get_or, length, refl, sym, ap, ◌∙◌, arith, inl, inr}
 use Rattle.std.specs.List.{list_any}
 use Rattle.std.proofs.lemmas.Bool.{or_parts}
 use Rattle.setup_model.specs.declared.dependency.Dependency.{Dependency}
@@ -80,3 +80,25 @@ module _ (c : Configuration) (standings : List Standing) (n : ℕ) (in_range : n
   -- and where none inherits, so does none
   pub none_blocks : met ≡ false → list_any (λ d. d.inherits) ds ≡ false → false ≡ is_blocked c standings n
   none_blocks e inherits = sym (none_within c standings (object_count c) n (rw (← own) (sym tested ∙ e)) (rw (← own) inherits))
+
+-- ---- one master that decides
+
+last_of_two : (b : Bool) → ((false || false) || ((true && b) || false)) ≡ b
+last_of_two true = refl
+last_of_two false = refl
+
+one_item : (ds : List Dependency) (default : Dependency) → length ds ≡ 1 → get_or ds 0 default ∷ [] ≡ ds
+one_item [] default e = absurd (omega (arith, e))
+one_item (d ∷ []) default e = refl
+one_item (d ∷ other ∷ ds) default e = absurd (omega (arith, e))
+
+-- an object with one dependency, which inherits and isn't met, is blocked if and only if its master is
+pub decided : (c : Configuration) (standings : List Standing) (n : ℕ) (ds : List Dependency) (default : Dependency) → IsSetup c → n < object_count c
+    → ds ≡ dependencies_of c n → length ds ≡ 1 → (get_or ds 0 default).inherits ≡ true → is_met c standings (get_or ds 0 default) ≡ false
+    → is_blocked c standings (get_or ds 0 default).master ≡ is_blocked c standings n
+decided c standings n ds default valid h own one inherits met =
+    let d = get_or ds 0 default in
+    sym (blocked_in_two c standings n valid h
+    ∙ ap (λ own. list_any (is_met c standings) own || list_any (is_inheriting c standings) own) (sym own ∙ sym (one_item ds default one))
+    ∙ (λ i. (met i || false) || ((inherits i && is_blocked c standings d.master) || false))
+    ∙ last_of_two (is_blocked c standings d.master))

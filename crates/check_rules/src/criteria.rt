@@ -16,8 +16,15 @@ pub(crate) fn is_any_met(setup: &Setup, standings: &[Standing], dependencies: &[
         .any(|dependency| is_met(setup, standings, *dependency))
 }
 
+/// Whether some of the dependencies inherit.
+pub(crate) fn inherits_any(dependencies: &[Dependency]) -> bool
+    ensures { result ≡ list_any (λ d. d.inherits) dependencies.now }
+{
+    dependencies.iter().any(|dependency| dependency.inherits)
+}
+
 /// Whether the master of the dependency is in one of its criteria.
-fn is_met(setup: &Setup, standings: &[Standing], dependency: Dependency) -> bool
+pub(crate) fn is_met(setup: &Setup, standings: &[Standing], dependency: Dependency) -> bool
     ensures { result ≡ is_met setup.now standings.now dependency }
 {
     match standings.get(dependency.master as usize) {

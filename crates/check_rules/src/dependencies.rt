@@ -1,13 +1,12 @@
 //! Execution dependencies, which can block the check of an object.
 
 ghost use Rattle.std.specs.Prelude.{◌≡◌, ◌<◌, [], length};
-ghost use Rattle.std.specs.List.{list_any};
 ghost use Rattle.check_objects.specs.Configuration.{dependencies_of, object_count};
 ghost use Rattle.check_rules.specs.Dependencies.{is_blocked};
 
-use crate::criteria::is_any_met;
+use crate::criteria::{inherits_any, is_any_met};
 use crate::masters::is_blocked_by_masters;
-use check_objects::{Dependency, Setup};
+use check_objects::Setup;
 use check_states::Standing;
 
 /// Whether some execution dependency of the object with this number fails, given the standings of all
@@ -19,8 +18,9 @@ use check_states::Standing;
 /// meets only the criterion `p`. (Our own profile.)
 ///
 /// `marks` is scratch space with a place for each object, and can contain anything. It isn't used if a master
-/// of the object meets a criterion, or if no dependency of the object inherits. Otherwise it is cleared, and
-/// each master that is reached through inheriting dependencies is marked. The stack doesn't grow with the setup.
+/// of the object meets a criterion, or if no dependency of the object inherits, or if a chain of masters settles
+/// it. Otherwise it is cleared, and each master that is reached through inheriting dependencies is marked. The stack
+/// doesn't grow with the setup.
 pub fn blocked(setup: &Setup, standings: &[Standing], marks: &mut [bool], n: u32) -> bool
     requires in_range { n < object_count setup.now }
     requires one_each { length standings.now ≡ object_count setup.now }
@@ -37,11 +37,4 @@ pub fn blocked(setup: &Setup, standings: &[Standing], marks: &mut [bool], n: u32
         return false;
     }
     is_blocked_by_masters(setup, standings, marks, n)
-}
-
-/// Whether some of the dependencies inherit.
-fn inherits_any(dependencies: &[Dependency]) -> bool
-    ensures { result ≡ list_any (λ d. d.inherits) dependencies.now }
-{
-    dependencies.iter().any(|dependency| dependency.inherits)
 }

@@ -3,18 +3,18 @@
 
 ghost use Rattle.std.specs.Prelude.{◌≡◌, ◌<◌, ◌≤◌, All, IfSome, false, length, take, true};
 ghost use Rattle.std.specs.List.{list_any};
-ghost use Rattle.check_objects.specs.Configuration.{dependencies_of, object_count};
+ghost use Rattle.check_objects.specs.Configuration.{IsSetup, dependencies_of, object_count};
 ghost use Rattle.check_rules.specs.Dependencies.{is_blocked, is_met};
 ghost use Rattle.check_rules.specs.Marks.{are_marked, HasMarked, HasQueued};
 
-use crate::criteria::is_any_met;
+use crate::criteria::{inherits_any, is_any_met, is_met};
 use check_objects::{Dependency, Setup};
 use check_states::Standing;
 
 /// How many masters can wait in [`search_few`] at once.
 const WAITING: usize = 16;
 
-/// Whether the object with this number is blocked, if no master of it is in one of its criteria. `marks` is
+/// Whether the object with this number is blocked. A chain of masters is followed to its end first. `marks` is
 /// scratch space.
 pub(crate) fn is_blocked_by_masters(
     setup: &Setup,
@@ -24,14 +24,57 @@ pub(crate) fn is_blocked_by_masters(
 ) -> bool
     requires in_range { n < object_count setup.now }
     requires scratch { length marks.old ≡ object_count setup.now }
-    requires unmet { list_any (is_met setup.now standings.now) (dependencies_of setup.now n) ≡ false }
     ensures value { result ≡ is_blocked setup.now standings.now n }
     ensures size { length marks.new ≡ length marks.old }
 {
-    match search_few(setup, standings, marks, n) {
-        Some(answer) => answer,
-        None => search_all(setup, standings, marks, n),
+    let end = chain_end(setup, standings, n);
+    let dependencies = setup.dependencies(end);
+    if is_any_met(setup, standings, dependencies) {
+        return true;
     }
+    if !inherits_any(dependencies) {
+        return false;
+    }
+    match search_few(setup, standings, marks, end) {
+        Some(answer) => answer,
+        None => search_all(setup, standings, marks, end),
+    }
+}
+
+/// The end of the chain of masters that begins at the object with this number. Each object before the end depends on
+/// the next one alone, so the first is blocked if and only if the end is.
+fn chain_end(setup: &Setup, standings: &[Standing], n: u32) -> u32
+    requires { n < object_count setup.now }
+    ensures value { is_blocked setup.now standings.now result ≡ is_blocked setup.now standings.now n }
+    ensures in_range { result < object_count setup.now }
+{
+    let mut end = n;
+    for _link in 0..setup.len() {
+        let Some(master) = deciding_master(setup, standings, end) else {
+            return end;
+        };
+        end = master;
+    }
+    end
+}
+
+/// The master that alone decides whether the object with this number is blocked: the object has one dependency, which
+/// inherits, and whose master isn't in one of its criteria. None if there is no such master.
+fn deciding_master(setup: &Setup, standings: &[Standing], n: u32) -> Option<u32>
+    requires in_range { n < object_count setup.now }
+    requires valid_setup { IsSetup setup.now }
+    ensures value { IfSome result (λ master. is_blocked setup.now standings.now master ≡ is_blocked setup.now standings.now n) }
+    ensures in_range { IfSome result (λ master. master < object_count setup.now) }
+{
+    let dependencies = setup.dependencies(n);
+    if dependencies.len() != 1 {
+        return None;
+    }
+    let dependency = dependencies[0];
+    if !dependency.inherits || is_met(setup, standings, dependency) {
+        return None;
+    }
+    Some(dependency.master)
 }
 
 /// The same, by one master after the other. None if too many masters have to wait. The cost depends on the
