@@ -5,6 +5,7 @@ pub mod WordLemmas
 pub mod BoardLemmas
 pub mod ActLemmas
 pub mod Events
+pub mod Facts
 pub mod Obligations
 pub mod OnlyTables
 pub mod SeatLaws

@@ -11,6 +11,7 @@ pub mod Counts
 pub mod Callers
 pub mod Endings
 pub mod GhostSteps
+pub mod Kinds
 pub mod Tokens
 pub mod Posting
 pub mod Belonging

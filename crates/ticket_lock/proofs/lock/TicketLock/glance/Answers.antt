@@ -3,8 +3,13 @@ use Rattle.ticket_lock.specs.Boards.{board_after}
 use Rattle.ticket_lock.specs.Counts.{AreCountsOf}
 use Rattle.ticket_lock.specs.Legal.{IsLegalFrom}
 use Rattle.ticket_lock.specs.Views.{Follows}
+use Rattle.ticket_lock.proofs.BoardLemmas.{AreLaws}
 use Rattle.ticket_lock.proofs.Obligations.{glances}
+use Rattle.ticket_lock.proofs.lock.TicketLock.glance.Given.{Over}
 use Rattle.ticket_lock.proofs.lock.TicketLock.glance.Goals as goal
+
+laws_of : (g : Over) → AreLaws g.K.Kept
+laws_of g = record { legal = g.met.K.Kept.legal; replayed = g.met.K.Kept.replayed; unposted = g.met.K.Kept.unposted; posted = g.met.K.Kept.posted }
 
 pub load-word-requires : goal.load-word-requires
 load-word-requires g c =
@@ -12,7 +17,7 @@ load-word-requires g c =
     let lock = c.args.self.now in (
       c.requires.lock.0,
       omega (arith, c.board_word.ensures, c.requires.place, lock.sized.0, lock.table.shared.key.counted),
-      glances g.K.Kept _ _ _ c.args.place _ s.table_seat.me c.board_word.ensures s.idle,
+      glances g.K.Kept _ (laws_of g) _ _ c.args.place _ s.table_seat.me c.board_word.ensures s.idle c.requires.place,
     )
 
 pub invariant_of-seat : goal.invariant_of-seat

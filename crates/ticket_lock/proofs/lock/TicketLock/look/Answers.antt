@@ -7,7 +7,8 @@ use Rattle.ticket_lock.specs.Legal.{IsLegalFrom}
 use Rattle.ticket_lock.specs.Tokens.{start_of}
 use Rattle.ticket_lock.specs.Views.{view_after_look}
 use Rattle.ticket_lock.proofs.BoardLemmas.{AreLaws}
-use Rattle.ticket_lock.proofs.Obligations.{looks, in_hand}
+use Rattle.ticket_lock.proofs.Facts.{book_or}
+use Rattle.ticket_lock.proofs.Obligations.{looks}
 use Rattle.ticket_lock.proofs.SeatLaws.{counts_stay}
 use Rattle.ticket_lock.proofs.lock.TicketLock.look.Given.{Over}
 use Rattle.ticket_lock.proofs.lock.TicketLock.look.Goals as goal
@@ -24,7 +25,7 @@ invariant_of-hold g c =
     let k = g.K.Kept in
     let book = c.take_book-book.result in
     let t = (c.load-granted.ensures.2 s.ticket s.waits).0 c.if-granted-ticket.true in
-    let same : book ≡ t.0 = ap (in_hand t.0) (sym c.take_book-book.ensures.book ∙ ap (λ m. m.1) t.1) in
+    let same : book ≡ t.0 = ap (book_or t.0) (sym c.take_book-book.ensures.book ∙ ap (λ m. m.1) t.1) in
     let now : c.take_book-book.new.table_seat.me.0 ≡ view_after_look k s.ticket s.table_seat.me.0 book =
     ap (λ m. m.0) c.take_book-book.ensures.taken ∙ (ap (λ m. m.0) t.1 ∙ ap (view_after_look k s.ticket s.table_seat.me.0) (sym same)) in
     let handed = subst (IsHandedOut k (start_of c.args.self.now) s.table_seat.me.0.seat.numbers s.table_seat.me.0.seen s.ticket) (sym same) (t.2 _ c.requires.1).0 in
@@ -44,14 +45,14 @@ returns-then-granted-ticket-clause-book g c =
     let k = g.K.Kept in
     let book = c.take_book-book.result in
     let t = (c.load-granted.ensures.2 s.ticket s.waits).0 c.if-granted-ticket.true in
-    let same : book ≡ t.0 = ap (in_hand t.0) (sym c.take_book-book.ensures.book ∙ ap (λ m. m.1) t.1) in
+    let same : book ≡ t.0 = ap (book_or t.0) (sym c.take_book-book.ensures.book ∙ ap (λ m. m.1) t.1) in
     subst (IsHandedOut k (start_of c.args.self.now) s.table_seat.me.0.seat.numbers s.table_seat.me.0.seen s.ticket) (sym same) (t.2 _ c.requires.1).0
 
 pub returns-then-granted-ticket-clause-schedule : goal.returns-then-granted-ticket-clause-schedule
 returns-then-granted-ticket-clause-schedule g c =
     let s = c.args.turn in
     let t = (c.load-granted.ensures.2 s.ticket s.waits).0 c.if-granted-ticket.true in
-    let same : c.take_book-book.result ≡ t.0 = ap (in_hand t.0) (sym c.take_book-book.ensures.book ∙ ap (λ m. m.1) t.1) in
+    let same : c.take_book-book.result ≡ t.0 = ap (book_or t.0) (sym c.take_book-book.ensures.book ∙ ap (λ m. m.1) t.1) in
     subst (EndsSchedule g.K.Kept (start_of c.args.self.now)) (sym same) (t.2 _ c.requires.1).1
 
 pub take_book-book-requires-clause-full : goal.take_book-book-requires-clause-full
