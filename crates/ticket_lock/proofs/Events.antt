@@ -133,7 +133,7 @@ module _ {K C R : Type 0} (k : Ghosts K C R) (m : TableMoment K k.State C R) (is
   true_set b vs i w mine others j v e = ⊎_elim (λ (t : (j ≡ i) × (w ≡ v)). subst (IsTrueView m.start b) t.1 mine)
       (λ (t : (j ≢ i) × (get_elem? vs j ≡ some v)). others j v t.0 t.1) (at_set vs i j w v e)
 
-  -- the slot stays as it was where no seat comes to hold and none that held goes on
+  -- the slot stays as it was if as many seats hold as before
   slot_stays : (seats : List CoreSeat) (next : ℕ) (words : List ℕ) (views : List V) → holders seats ≡ holders m.core.seats
       → IsSlotOf k m.start (core_state next m.core.served seats m.core.book) record { words = words; homes = m.table.homes; views = views }
   slot_stays seats next words views same = record {
@@ -180,7 +180,7 @@ module _ {K C R : Type 0} (k : Ghosts K C R) (m : TableMoment K k.State C R) (is
       (slot_stays _ _ _ _ (omega (arith, total-set holds m.core.seats m.id m.me.0.seat p seat_here, ap holder_count_of ready.0)))
       (true_idle p m.me.0.seen true_here.seen refl) others_true
 
-  -- a load by which the seat doesn't change in the core leaves the core state as it was
+  -- a load after which the seat is the same in the core leaves the core state as it was
   load_same : (hs : List (Happening C R)) (word : ℕ) (w : V) → Leads k m.start.draws opened hs m.core → w.seat ≡ m.me.0.seat
       → IsTrueView m.start m.core.book w
       → IsTableOf k m.start hs m.core (stepped m.table word (get_or m.table.words word 0) m.id m.me.1 w keeps)
@@ -232,7 +232,7 @@ module _ {K C R : Type 0} (k : Ghosts K C R) (m : TableMoment K k.State C R) (is
       }
       (true_with_book m.core.book p book _ (home_is book ready.0 ready.1) (λ t h. refl)) others_true
 
-  -- what the other seats know, where a holder adds nothing but entries of its own number to the history
+  -- the views of the other seats stay true if a holder adds only entries of its own number
   others_know : (ticket : ℕ) (b : Book) (zs : List (Entry C R)) → Holds ticket m.me.0.seat.phase → b.entries ≡ m.core.book.entries ++ zs
       → ((n : ℕ) → m.me.0.seat.own ≢ n → of n b.entries ≡ of n m.core.book.entries)
       → (j : ℕ) (u : V) → j ≢ m.id → get_elem? m.table.views j ≡ some u → IsTrueView m.start b u
@@ -267,7 +267,7 @@ module _ {K C R : Type 0} (k : Ghosts K C R) (m : TableMoment K k.State C R) (is
         ));
       }
 
-  -- a book of the core after a holder's call: it goes on from the one that was handed out, by nothing but entries of the holder's number
+  -- a book of the core after a holder's call: it has the entries of the one that was handed out, and then entries of the holder's number only
   record IsLater (b : Book) (book : K) : Type 0 where
     pub is_book : IsBook k m.start b book
     pub zs : List (Entry C R)
@@ -311,10 +311,10 @@ module _ {K C R : Type 0} (k : Ghosts K C R) (m : TableMoment K k.State C R) (is
   leave_to : (posted : Bool) (ticket : ℕ) (book : K) (h : Happening C R) (b : Book) → Holds ticket m.me.0.seat.phase → m.me.1 ≡ (0, Some book) ∷ []
       → IsLater b book → Moves k m.start.draws m.core h (after_leave m.core m.id m.me.0.seat b) → k.board b.state ≡ k.board m.core.book.state
       → IsOneEvent k m h (table_after k m (leave posted ticket book))
-  leave_to posted ticket book h b holder hand later move shows =
+  leave_to posted ticket book h b holder carries later move shows =
       let served : m.core.served ≡ ticket = sym ((lawful.each m.id m.me.0.seat seat_here).holder ticket holder) in
       let p : CoreSeat = seat_after_turn m.me.0.seat in
-      let here : put_back m.table.homes m.me.1 ≡ set m.table.homes 0 (some (Some book)) = ap (put_back m.table.homes) hand in
+      let here : put_back m.table.homes m.me.1 ≡ set m.table.homes 0 (some (Some book)) = ap (put_back m.table.homes) carries in
       seat_event h (after_leave m.core m.id m.me.0.seat b) _ _ (view_after k m (leave posted ticket book)) move
       (subst (λ (n : ℕ). AreWordsOf m.core.next (m.core.served + 1) (k.board b.state) (set m.table.words (grant_word (n + 1)) (n + 1))) served
       (subst (λ (q : List ℕ). AreWordsOf m.core.next (m.core.served + 1) q (set m.table.words (grant_word (m.core.served + 1)) (m.core.served + 1)))

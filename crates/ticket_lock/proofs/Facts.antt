@@ -119,8 +119,8 @@ module _ {K C R : Type 0} (k : Ghosts K C R) (m : TableMoment K k.State C R) (is
       let l = lawful k m is in
       let at = seat_here k m is in
       let has : 0 < occurrences ticket (tickets_of v.seat.phase) = omega (arith, tickets_holding ticket ticket v.seat may.0, occurrences-same ticket []) in
-      λ b hand. (
-        (let same : book ≡ b = ap (book_or book) (sym may.1 ∙ hand) in λ i. (view_after_leave k v (same i), rest (may.1 i))),
+      λ b carries. (
+        (let same : book ≡ b = ap (book_or book) (sym may.1 ∙ carries) in λ i. (view_after_leave k v (same i), rest (may.1 i))),
         omega (
           arith,
           one_calls m.start.numbers m.start.draws m.core l m.id v.seat at,
@@ -162,18 +162,18 @@ module _ {K C R : Type 0} (k : Ghosts K C R) (m : TableMoment K k.State C R) (is
         omega (arith, one_calls m.start.numbers m.start.draws m.core l m.id v.seat at, served_le m.start.numbers m.start.draws m.core l, next_small k m is),
       )
 
-  set_stands : (w : View K C R) → get_elem? (set m.table.views m.id w) m.id ≡ some w
-  set_stands w = set_here m.table.views m.id w (at_within m.table.views m.id m.me.0 is.there)
+  view_set : (w : View K C R) → get_elem? (set m.table.views m.id w) m.id ≡ some w
+  view_set w = set_here m.table.views m.id w (at_within m.table.views m.id m.me.0 is.there)
 
   -- each kind of step
   pub has_fact : AreLaws k → (kind : Kind K C R) (step : Step (Option K)) → MayLearn k m kind step → HasFact k m kind step
-  has_fact laws (split count) step may = record { stands = at_before _ _ m.id _ (set_stands _); agreement = tt }
-  has_fact laws draw step may = record { stands = set_stands _; agreement = draw_fact step }
-  has_fact laws (look_held book) step may = record { stands = set_stands _; agreement = look_held_fact laws book step may }
-  has_fact laws (look_waits ticket) step may = record { stands = set_stands _; agreement = look_waits_fact ticket step may }
-  has_fact laws (post ticket place book) step may = record { stands = set_stands _; agreement = post_fact ticket place book step may }
-  has_fact laws (leave posted ticket book) step may = record { stands = set_stands _; agreement = leave_fact posted ticket book step may }
+  has_fact laws (split count) step may = record { there = at_before _ _ m.id _ (view_set _); agreement = tt }
+  has_fact laws draw step may = record { there = view_set _; agreement = draw_fact step }
+  has_fact laws (look_held book) step may = record { there = view_set _; agreement = look_held_fact laws book step may }
+  has_fact laws (look_waits ticket) step may = record { there = view_set _; agreement = look_waits_fact ticket step may }
+  has_fact laws (post ticket place book) step may = record { there = view_set _; agreement = post_fact ticket place book step may }
+  has_fact laws (leave posted ticket book) step may = record { there = view_set _; agreement = leave_fact posted ticket book step may }
   has_fact laws (gather other w) step may =
-      record { stands = set_else (set m.table.views m.id _) other m.id _ (λ same. may (sym same)) ∙ set_stands _; agreement = tt }
-  has_fact laws second_load step may = record { stands = set_stands _; agreement = second_load_fact step }
-  has_fact laws (glance place) step may = record { stands = set_stands _; agreement = glance_fact place step may }
+      record { there = set_else (set m.table.views m.id _) other m.id _ (λ same. may (sym same)) ∙ view_set _; agreement = tt }
+  has_fact laws second_load step may = record { there = view_set _; agreement = second_load_fact step }
+  has_fact laws (glance place) step may = record { there = view_set _; agreement = glance_fact place step may }

@@ -1,4 +1,4 @@
--- Histories that were seen, and the one history that goes on.
+-- Histories that were seen, and the one history that continues them.
 use Rattle.std.proofs.Common.{◌≡◌, ℕ, suc, ◌<◌, ◌≤◌, List, [], ◌∷◌, ◌++◌, length, sym, refl, ap, ◌∙◌, subst, arith, append_assoc, length-append, Bool, cond}
 use Rattle.std.proofs.Common.{drop, lt-ltb, le-ltb}
 use Rattle.std.proofs.lemmas.List.{append-nil}
@@ -20,13 +20,13 @@ module _ {C R : Type 0} where
   head_or d [] = d
   head_or d (x ∷ xs) = x
 
-  -- of two beginnings of one history the shorter begins the longer
-  pub shorter : (xs ys log : List (Entry C R)) → IsPrefix xs log → IsPrefix ys log → length xs ≤ length ys → IsPrefix xs ys
-  shorter [] ys log a b h = (ys, refl)
-  shorter (x ∷ xs) [] log a b h = absurd (omega arith)
-  shorter (x ∷ xs) (y ∷ ys) [] a b h = absurd (omega (arith, ap length a.1))
-  shorter (x ∷ xs) (y ∷ ys) (z ∷ zs) a b h =
-      let t = shorter xs ys zs (a.0, ap (drop 1) a.1) (b.0, ap (drop 1) b.1) (omega arith) in
+  -- of two prefixes of one history the shorter is a prefix of the longer
+  pub prefix_of_longer : (xs ys log : List (Entry C R)) → IsPrefix xs log → IsPrefix ys log → length xs ≤ length ys → IsPrefix xs ys
+  prefix_of_longer [] ys log a b h = (ys, refl)
+  prefix_of_longer (x ∷ xs) [] log a b h = absurd (omega arith)
+  prefix_of_longer (x ∷ xs) (y ∷ ys) [] a b h = absurd (omega (arith, ap length a.1))
+  prefix_of_longer (x ∷ xs) (y ∷ ys) (z ∷ zs) a b h =
+      let t = prefix_of_longer xs ys zs (a.0, ap (drop 1) a.1) (b.0, ap (drop 1) b.1) (omega arith) in
       let same : x ≡ y = ap (head_or x) (a.1 ∙ sym b.1) in
       (t.0, λ i. same i ∷ t.1 i)
 
@@ -34,9 +34,9 @@ module _ {C R : Type 0} where
   empty_of [] h = refl
   empty_of (x ∷ xs) h = absurd (omega arith)
 
-  -- what is between two histories with the same entries of a pass has none of it
-  pub squeezed : (p : ℕ) (xs ys log : List (Entry C R)) → IsPrefix xs ys → IsPrefix ys log → of p log ≡ of p xs → of p ys ≡ of p xs
-  squeezed p xs ys log a b same =
+  -- a history between two that have the same entries of a number has these too
+  pub of_between : (p : ℕ) (xs ys log : List (Entry C R)) → IsPrefix xs ys → IsPrefix ys log → of p log ≡ of p xs → of p ys ≡ of p xs
+  of_between p xs ys log a b same =
       let one = of-append p xs a.0 in
       let two = of-append p ys b.0 in
       let ys_is : of p ys ≡ of p xs ++ of p a.0 = ap (of p) (sym a.1) ∙ one in
@@ -48,7 +48,7 @@ module _ {C R : Type 0} where
   -- a history that was seen, and a longer one
   pub follows_longer : (numbers : List ℕ) (xs ys log : List (Entry C R)) → Follows numbers xs log → IsPrefix ys log → length xs ≤ length ys
       → Follows numbers xs ys
-  follows_longer numbers xs ys log f b h = let a = shorter xs ys log f.0 b h in (a, λ p has. squeezed p xs ys log a b (f.1 p has))
+  follows_longer numbers xs ys log f b h = let a = prefix_of_longer xs ys log f.0 b h in (a, λ p has. of_between p xs ys log a b (f.1 p has))
 
   pub longer_is : (xs ys : List (Entry C R)) (P : List (Entry C R) → Type 0) → (length xs < length ys → P ys) → (length ys ≤ length xs → P xs)
       → P (longer xs ys)
@@ -61,12 +61,12 @@ module _ {C R : Type 0} where
       let pre : IsPrefix (longer xs ys) log = longer_is xs ys (λ (l : List (Entry C R)). IsPrefix l log) (λ _. g.0) (λ _. f.0) in (
         pre,
         λ p has. dite (dec_le (suc 0) (occurrences p ms))
-            (λ in_as. f.1 p in_as ∙ sym (squeezed p xs (longer xs ys) log
-            (longer_is xs ys (λ (l : List (Entry C R)). IsPrefix xs l) (λ lt. shorter xs ys log f.0 g.0 (omega arith)) (λ _. ([], append-nil xs)))
+            (λ in_as. f.1 p in_as ∙ sym (of_between p xs (longer xs ys) log
+            (longer_is xs ys (λ (l : List (Entry C R)). IsPrefix xs l) (λ lt. prefix_of_longer xs ys log f.0 g.0 (omega arith)) (λ _. ([], append-nil xs)))
             pre (f.1 p in_as)))
             (λ out. let in_bs : 0 < occurrences p ns = omega (arith, has, occurrences-append p ms ns, out) in
-            g.1 p in_bs ∙ sym (squeezed p ys (longer xs ys) log
-            (longer_is xs ys (λ (l : List (Entry C R)). IsPrefix ys l) (λ _. ([], append-nil ys)) (λ le. shorter ys xs log g.0 f.0 (omega arith)))
+            g.1 p in_bs ∙ sym (of_between p ys (longer xs ys) log
+            (longer_is xs ys (λ (l : List (Entry C R)). IsPrefix ys l) (λ _. ([], append-nil ys)) (λ le. prefix_of_longer ys xs log g.0 f.0 (omega arith)))
             pre (g.1 p in_bs))),
       )
 
@@ -74,7 +74,7 @@ module _ {C R : Type 0} where
   nothing_left [] h = refl
   nothing_left (e ∷ es) h = absurd (omega (arith, ap length (h e.pass), ap length (of-yes e.pass e es refl)))
 
-  -- what has all entries of every pass is the whole history
+  -- a history with all entries of every number is the whole one
   pub all_seen : (seen log : List (Entry C R)) → IsPrefix seen log → ((p : ℕ) → of p log ≡ of p seen) → log ≡ seen
   all_seen seen log pre same =
       let none_of : (p : ℕ) → of p pre.0 ≡ [] = λ p. empty_of (of p pre.0) (omega
@@ -102,7 +102,7 @@ module _ {C R : Type 0} where
   pub follows_none : (log : List (Entry C R)) → Follows [] [] log
   follows_none log = ((log, refl), λ p h. absurd (omega arith))
 
-  -- the history goes on, with nothing of these numbers
+  -- the history continues, with nothing of these numbers
   pub follows_later : (numbers : List ℕ) (seen log log' zs : List (Entry C R)) → Follows numbers seen log → log' ≡ log ++ zs
       → ((p : ℕ) → 0 < occurrences p numbers → of p log' ≡ of p log) → Follows numbers seen log'
   follows_later numbers seen log log' zs f is still =

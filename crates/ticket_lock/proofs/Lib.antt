@@ -1,6 +1,5 @@
 pub mod HistoryLemmas
 pub mod Callers
-pub mod FreshSeats
 pub mod WordLemmas
 pub mod BoardLemmas
 pub mod ActLemmas

@@ -1,4 +1,4 @@
--- What the calls owe the table: each step keeps the rule, and its fact holds.
+-- The obligations of calls to the table: each step keeps the rule, and its fact holds.
 use Rattle.std.proofs.Common.{◌≡◌, ℕ, suc, ◌+◌, ◌%◌, ◌<◌, ◌≤◌, List, [], ◌∷◌, ◌++◌, length, get_or, sym, refl, ap, ◌∙◌, subst, ⊎_elim, arith}
 use Rattle.std.proofs.Common.{Option, Some, None, Bool, true, false, cond}
 use mathlib.Core.Logic.{dite}
@@ -107,7 +107,7 @@ module _ {K C R : Type 0} (k : Ghosts K C R) (start : Start K) where
       let is = is_moment s r id me at in
       (view_after k m draw, keeps, tt, obeys m _ _ (draw_event k m is (idle, has_left)), draw_fact k m is (step n next_word 1 0 none))
 
-  -- what the table asks for at a look, at the word that this ticket watches
+  -- the obligation of a look at the word that this ticket watches
   abbrev LookAllowed : Moment → Step (Option K) → ℕ → Type 0
   LookAllowed m st t = (w : V) × (a : Act (Option K)) × Valid m.table.homes m.me.1 a
       × ObeysRule k m.start (stepped m.table (grant_word t) (get_or m.table.words (grant_word t) 0) m.id m.me.1 w a)
@@ -148,19 +148,19 @@ module _ {K C R : Type 0} (k : Ghosts K C R) (start : Start K) where
   leave_ready : (posted : Bool) (m : Moment) (t : ℕ) (book : K) → m.me.1 ≡ (0, Some book) ∷ [] → m.me.0.seat.phase ≡ cond posted (Posted t) (Holding t)
       → (posted ≡ false → IsBookAfterCall k m.start m.me.0.seat.own m.me.0.seen m.me.0.refused None book)
       → (posted ≡ true → IsBookAfterPost k m.start m.me.0.seen m.me.0.refused book) → IsReady k m (leave posted t book)
-  leave_ready true m t book hand holder recorded posts = (holder, hand, posts refl)
-  leave_ready false m t book hand holder recorded posts = (holder, hand, recorded refl)
+  leave_ready true m t book carries holder recorded posts = (holder, carries, posts refl)
+  leave_ready false m t book carries holder recorded posts = (holder, carries, recorded refl)
 
   leaves_at : AreLaws k → (posted : Bool) (n id t : ℕ) (me : Seat) (book : K) (o : Start K)
       → me.1 ≡ (0, Some book) ∷ [] → me.0.seat.phase ≡ cond posted (Posted t) (Holding t) → me.0.start ≡ Some o
       → (posted ≡ false → IsBookAfterCall k o me.0.seat.own me.0.seen me.0.refused None book)
       → (posted ≡ true → IsBookAfterPost k o me.0.seen me.0.refused book)
       → Allows Rule n id me (grant_word (t + 1)) (λ _. t + 1) (λ _. LeaveFact k (step n (grant_word (t + 1)) (t + 1) 0 none) me (t + 1))
-  leaves_at laws posted n id t me book o hand holder known recorded posts s r wide at small =
+  leaves_at laws posted n id t me book o carries holder known recorded posts s r wide at small =
       let m = moment s r id me in
       let is = is_moment s r id me at in
       let mine : o ≡ start = (true_here k m is).start_is o known in
-      let e = leave_obeys laws posted m t book is (leave_ready posted m t book hand holder
+      let e = leave_obeys laws posted m t book is (leave_ready posted m t book carries holder
       (λ no. subst (λ (z : Start K). IsBookAfterCall k z me.0.seat.own me.0.seen me.0.refused None book) mine (recorded no))
       (λ yes. subst (λ (z : Start K). IsBookAfterPost k z me.0.seen me.0.refused book) mine (posts yes))) in
       (view_after k m (leave posted t book), gives, tt, e.0, leave_fact k m is posted t book (step n (grant_word (t + 1)) (t + 1) 0 none) (e.1, e.2))
@@ -170,7 +170,7 @@ module _ {K C R : Type 0} (k : Ghosts K C R) (start : Start K) where
       → (posted ≡ false → IsBookAfterCall k o me.0.seat.own me.0.seen me.0.refused None book)
       → (posted ≡ true → IsBookAfterPost k o me.0.seen me.0.refused book)
       → Allows Rule n id me word (λ _. t + 1) (λ _. LeaveFact k (step n word (t + 1) 0 none) me (t + 1))
-  leaves laws posted n id t word me book o is hand holder known recorded posts = rw is (leaves_at laws posted n id t me book o hand holder known recorded posts)
+  leaves laws posted n id t word me book o is carries holder known recorded posts = rw is (leaves_at laws posted n id t me book o carries holder known recorded posts)
 
   posts_at : AreLaws k → (n id t place : ℕ) (me : Seat) (book : K) (o : Start K) → me.0.seat.phase ≡ Holding t
       → me.0.start ≡ Some o → IsBookAfterCall k o me.0.seat.own me.0.seen me.0.refused (Some place) book
@@ -231,7 +231,7 @@ module _ {K C R : Type 0} (k : Ghosts K C R) (start : Start K) where
       let is = is_moment s r id me at in
       (view_after k m second_load, keeps, tt, (r.0, r.1, second_load_same k m is idle), second_load_fact k m is (step n next_word 0 0 none))
 
-  -- the last book that a lock has: what it says to the seat with this view, which stands for all numbers
+  -- the last book of a lock, for a seat with this view that has all numbers
   pub record IsLastBook (v : V) (book : K) : Type 0 where
     pub ends : EndsSchedule k start book
     pub opening : k.opening book ≡ k.opening start.book
@@ -239,7 +239,7 @@ module _ {K C R : Type 0} (k : Ghosts K C R) (start : Start K) where
     pub calls : length (k.history book) + k.refusals book ≡ v.seat.calls
     pub numbers : (p : ℕ) → start.numbers ≤ p → of p (k.history book) ≡ []
 
-  -- where one idle seat stands for all numbers, the book is home and has what the seat has seen
+  -- if one idle seat has all numbers, the book is in its slot, and its entries are those that the seat has seen
   pub closes : AreLaws k → (s : Table) (id : ℕ) (v : V) → Rule s → get_elem? s.views id ≡ some v → v.seat.phase ≡ Idle → start.numbers ≤ length v.seat.numbers
       → (book : K) × (get_elem? s.homes 0 ≡ some (some (Some book))) × IsLastBook v book
   closes laws s id v r at idle all =

@@ -68,19 +68,19 @@ module _ {K C R : Type 0} (k : Ghosts K C R) (m : TableMoment K k.State C R) (is
       )
   agrees (look_waits ticket) step learns bare t may =
       kept_bare _ bare may.view may.act may.valid ((may.agreement ticket learns.0).1 (found_waiting k m is ticket learns.0 learns.1)).0
-  agrees (post ticket place book) step holding hand t may =
+  agrees (post ticket place book) step holding carries t may =
       let agreement = may.agreement ticket holding in
       let out = slot_out ticket (holding_holds ticket m.me.0.seat.phase holding) in
-      let homes = took_home (some None) _ _ None (has_after (some None) m.table.homes m.me.1 may.act (inr (None, refl, out, hand)) may.valid)
-      (ap (λ (p : Seat). p.1) agreement ∙ hand) in
+      let homes = took_home (some None) _ _ None (has_after (some None) m.table.homes m.me.1 may.act (inr (None, refl, out, carries)) may.valid)
+      (ap (λ (p : Seat). p.1) agreement ∙ carries) in
       (ap (λ (p : Seat). p.0) agreement, homes.1 ∙ sym out)
-  agrees (leave posted ticket book) step learns hand t may =
-      let agreement = (may.agreement book hand).0 in
+  agrees (leave posted ticket book) step learns carries t may =
+      let agreement = (may.agreement book carries).0 in
       let out = slot_out ticket learns.0 in
       let homes = left_home (some (Some book)) _ _
-      (has_after (some (Some book)) m.table.homes m.me.1 may.act (inr (Some book, refl, out, hand)) may.valid) (ap (λ (p : Seat). p.1) agreement) in
+      (has_after (some (Some book)) m.table.homes m.me.1 may.act (inr (Some book, refl, out, carries)) may.valid) (ap (λ (p : Seat). p.1) agreement) in
       let back : put_back m.table.homes m.me.1 ≡ some (Some book) ∷ [] =
-      ap (put_back m.table.homes) hand ∙ ap (λ (q : Homes). set q 0 (some (Some book))) out in
+      ap (put_back m.table.homes) carries ∙ ap (λ (q : Homes). set q 0 (some (Some book))) out in
       (ap (λ (p : Seat). p.0) agreement, homes ∙ sym back)
   agrees (gather other w) step learns decides t may = absurd decides
   agrees second_load step learns decides t may = kept_bare _ decides.0 may.view may.act may.valid (may.agreement decides.1).0

@@ -1,4 +1,4 @@
--- What is so of every seat, at any time, and what its token says of it.
+-- Facts of every seat, at any time, which its token has.
 use Rattle.std.proofs.Common.{◌≡◌, ◌<◌, ◌≤◌, ◌^◌, length, arith, ap, ◌∙◌, subst}
 use Rattle.ticket_steps.specs.declared.books.Kept.{Ghosts}
 use Rattle.ticket_steps.specs.declared.seats.CoreSeat.{CoreSeat}

@@ -1,4 +1,4 @@
--- The schedule behind a book that comes out of a lock.
+-- The schedule that led to a book that comes out of a lock.
 use Rattle.std.specs.Prelude.{◌≡◌}
 use Rattle.ticket_steps.specs.declared.books.Kept.{Ghosts}
 use Rattle.ticket_steps.specs.Books.{book_state}

@@ -27,7 +27,7 @@ pub data Kind (K C R : Type 0) : Type 0 where
   look_waits : ℕ → Kind K C R
   -- the holder of this ticket posts at this place the call that it has recorded in this book, and continues to hold
   post : ℕ → ℕ → K → Kind K C R
-  -- the holder, which has posted or hasn't, with this ticket, leaves; it has put this book back
+  -- the holder of this ticket leaves, and has put this book back; `true` if it has posted its call
   leave : Bool → ℕ → K → Kind K C R
   -- the seat takes over another, which has this number in the table and this view
   gather : ℕ → View K C R → Kind K C R
@@ -43,10 +43,12 @@ IsInSlot s book = get_elem? s.homes 0 ≡ some (some (Some book))
 module _ {K C R : Type 0} (k : Ghosts K C R) (m : TableMoment K k.State C R) where
   -- the word that the step loads, adds to or stores in; a split and a gather change only views
   abbrev pub word_of : Kind K C R → ℕ
+  word_of draw = next_word
   word_of (look_held book) = grant_word m.core.served
   word_of (look_waits ticket) = grant_word ticket
   word_of (post ticket place book) = board_word place
   word_of (leave posted ticket book) = grant_word (ticket + 1)
+  word_of second_load = next_word
   word_of (glance place) = board_word place
   word_of _ = next_word
 
@@ -94,7 +96,7 @@ module _ {K C R : Type 0} (k : Ghosts K C R) (m : TableMoment K k.State C R) whe
   }
   table_after kind = stepped m.table (word_of kind) (number_after kind (found_in kind)) m.id m.me.1 (view_after kind) (act_of kind)
 
-  -- The seat can make the step as a call of the lock: its phase is that of the step, and its book and its number are.
+  -- the seat can make the step: its phase, its numbers and draws, and its book allow it
   abbrev pub IsReady : Kind K C R → Type 0
   IsReady (split count) = (m.me.0.start ≡ Some m.start) × (m.me.0.seat.phase ≡ Idle) × (m.me.0.seat.fresh ≡ true)
       × (0 < count) × (count < length m.me.0.seat.numbers)
@@ -111,7 +113,7 @@ module _ {K C R : Type 0} (k : Ghosts K C R) (m : TableMoment K k.State C R) whe
   IsReady second_load = m.me.0.seat.phase ≡ Idle
   IsReady (glance place) = (m.me.0.seat.phase ≡ Idle) × (place < board_length k m.start.book)
 
-  -- The step to this table is this one event of the core. The second load of a gather is none.
+  -- The step to this table is this one event of the core. The second load of a gather is no event.
   abbrev pub IsEventOf : Kind K C R → State (Option K) (View K C R) → Type 0
   IsEventOf (split count) s = IsOneEvent k m (event.split m.me.0.seat.own count) s
   IsEventOf draw s = IsOneEvent k m (event.drew m.me.0.seat.own m.core.next) s
@@ -139,7 +141,7 @@ module _ {K C R : Type 0} (k : Ghosts K C R) (m : TableMoment K k.State C R) whe
   Fact second_load step found after = SecondLoadFact step m.me found after
   Fact (glance place) step found after = GlanceFact k step m.me found after
 
-  -- what is to hold of the seat, if it is to learn the fact
+  -- the seat learns the fact if this holds of it, and of the operands of the step
   abbrev pub MayLearn : Kind K C R → Step (Option K) → Type 0
   MayLearn (look_held book) step = (m.me.0.seat.phase ≡ Waiting m.core.served) × (m.me.1 ≡ []) × IsInSlot m.table book
   MayLearn (look_waits ticket) step = (m.me.0.seat.phase ≡ Waiting ticket) × (ticket ≢ m.core.served)
@@ -162,7 +164,7 @@ module _ {K C R : Type 0} (k : Ghosts K C R) (m : TableMoment K k.State C R) whe
 
   -- The seat is in the table after its step, and the fact holds of it and of the number that the step found.
   pub record HasFact (kind : Kind K C R) (step : Step (Option K)) : Type 0 where
-    pub stands : get_elem? (table_after kind).views m.id ≡ some (view_after kind)
+    pub there : get_elem? (table_after kind).views m.id ≡ some (view_after kind)
     pub agreement : Fact kind step (found_in kind) (view_after kind, carried_after m.me.1 (act_of kind))
 
   -- A table that a step of this kind can leave: the operation on the word that has the fact. The seat has some view after it, and took or gave back what

@@ -1,5 +1,5 @@
-//! The seven kinds of step (split, draw, look, post, leave, gather, glance), and the facts that the seat
-//! learns from each of them.
+//! The steps of the lock (split, draw, look, post, leave, gather, glance), and the facts that the seat learns
+//! from each of them.
 
 ghost use Rattle.std.specs.Prelude.{ℕ, List, []};
 ghost use Rattle.ticket_steps.specs.declared.books.Entry.{Entry as EntryOf};

@@ -11,8 +11,8 @@
 //!
 //! - `lock`: the lock and its calls; `layout`: the place of each word in the table.
 //! - `tokens`: seats, turns and holds, with their numbers at run time.
-//! - `views`: the knowledge of seats in proofs, and the rule; `ghost_steps`: the seven kinds of step (split, draw,
-//!   look, post, leave, gather, glance).
+//! - `views`: the knowledge of seats in proofs, and the rule; `ghost_steps`: the steps (split, draw, look, post,
+//!   leave, gather, glance).
 //! - `steps`: the law that each kind of step is one event of the core; `laws`: the law of every seat.
 
 mod ghost_steps;

@@ -115,16 +115,7 @@ impl<K: Kept> TicketLock<K> {
         slots.push_reserved(Some(book));
         match Table::new(alloc, words.as_slice(), slots, &opening) {
             Ok((table, table_seat)) => {
-                let seat = Seat {
-                    table_seat,
-                    counts: SeatCounts {
-                        number: 0,
-                        count: numbers,
-                        left: numbers as u64 * draws as u64,
-                        calls: 0,
-                    },
-                    parts: numbers as u64,
-                };
+                let seat = Seat::with_all_draws(table_seat, 0, numbers, draws, 0);
                 let lock = TicketLock {
                     table,
                     numbers,
@@ -171,26 +162,8 @@ impl<K: Kept> TicketLock<K> {
         } = seat;
         let other = self.table.shared.split_seat::<Splits<N>>(&mut table_seat);
         let kept = counts.count - count;
-        let split_part = Seat {
-            table_seat: other,
-            counts: SeatCounts {
-                number: counts.number + kept,
-                count,
-                left: count as u64 * self.draws as u64,
-                calls: 0,
-            },
-            parts: count as u64,
-        };
-        let seat = Seat {
-            table_seat,
-            counts: SeatCounts {
-                number: counts.number,
-                count: kept,
-                left: kept as u64 * self.draws as u64,
-                calls: counts.calls,
-            },
-            parts: kept as u64,
-        };
+        let split_part = Seat::with_all_draws(other, counts.number + kept, count, self.draws, 0);
+        let seat = Seat::with_all_draws(table_seat, counts.number, kept, self.draws, counts.calls);
         (seat, split_part)
     }
 
@@ -216,10 +189,8 @@ impl<K: Kept> TicketLock<K> {
             .shared
             .fetch_add::<Draws<K>>(&mut table_seat, NEXT, 1);
         let counts = SeatCounts {
-            number: counts.number,
-            count: counts.count,
             left: counts.left - 1,
-            calls: counts.calls,
+            ..counts
         };
         Ok(Turn {
             table_seat,
@@ -338,10 +309,8 @@ impl<K: Kept> TicketLock<K> {
             .shared
             .store::<Leaves<K>>(&mut table_seat, grant_word(next), next);
         let counts = SeatCounts {
-            number: counts.number,
-            count: counts.count,
-            left: counts.left,
             calls: counts.calls + 1,
+            ..counts
         };
         Seat {
             table_seat,
@@ -378,10 +347,9 @@ impl<K: Kept> TicketLock<K> {
             .shared
             .load::<SecondLoad<K>>(&mut table_seat, NEXT);
         let counts = SeatCounts {
-            number: counts.number,
             count: counts.count + more.count,
-            left: counts.left,
             calls: counts.calls + more.calls,
+            ..counts
         };
         Seat {
             table_seat,

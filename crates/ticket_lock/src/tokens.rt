@@ -6,6 +6,7 @@
 ghost use Rattle.std.specs.Prelude.{◌≡◌, ◌+◌, ◌^◌, ◌<◌, ◌≤◌, nat_lt, false, cond, [], ◌∷◌, length, None};
 ghost use Rattle.std.specs.Coded.{Coded-set};
 ghost use Rattle.ticket_steps.specs.declared.seats.Phase.TheVariants.{Idle, Waiting, Holding, Posted};
+ghost use Rattle.ticket_steps.specs.Seats.{fresh_seat};
 ghost use Rattle.ticket_steps.specs.Sums.{numbers_from, occurrences};
 ghost use Rattle.ticket_lock.specs.Counts.{AreCountsOf};
 ghost use Rattle.ticket_lock.specs.Legal.{IsLegalFrom, IsLegalFrom-prop};
@@ -74,6 +75,34 @@ pub struct Hold<K: Kept> {
 
 impl<K: Kept> Seat<K> {
     ghost use Rattle.ticket_lock.specs.Tokens.{seat_of};
+
+    /// A seat that has never drawn, for `count` numbers from `number` on with `draws` draws each.
+    pub(crate) fn with_all_draws(
+        table_seat: TableSeat<K>,
+        number: u32,
+        count: u32,
+        draws: u32,
+        calls: u64,
+    ) -> Seat<K>
+        requires bare { table_seat.me.1 ≡ [] }
+        requires legal { IsLegalFrom K.Kept table_seat.me.0.start table_seat.me.0.seen }
+        requires seat { table_seat.me.0.seat ≡ fresh_seat draws number (numbers_from number count) calls }
+        requires numbers { (0 < count) × (number + count ≤ 1024) }
+        requires calls { calls ≤ 4398046510080 }
+        ensures { result.table_seat ≡ table_seat }
+    {
+        let counts = SeatCounts {
+            number,
+            count,
+            left: count as u64 * draws as u64,
+            calls,
+        };
+        Seat {
+            table_seat,
+            counts,
+            parts: count as u64,
+        }
+    }
 
     /// Its own number: its calls are recorded under it, and it is one of the numbers for which the seat
     /// answers.

@@ -1,12 +1,13 @@
-use Rattle.std.proofs.Common.{rules, refl, ◌≡◌, ℕ, ◌*◌, ◌∷◌, [], Some, arith, sym, ap, ◌∙◌, subst}
+use Rattle.std.proofs.Common.{rules, true, ◌≡◌, ℕ, ◌*◌, ◌∷◌, [], Some, arith, sym, ap, ◌∙◌, subst}
 use Rattle.atomic_table.specs.Table.{opening}
 use Rattle.ticket_steps.specs.History.{replay}
+use Rattle.ticket_steps.specs.Sums.{numbers_from}
 use Rattle.ticket_steps.proofs.SumLemmas.{length-numbers_from}
-use Rattle.ticket_lock.specs.declared.tokens.SeatCounts.{SeatCounts}
+use Rattle.ticket_lock.specs.Callers.{caller}
 use Rattle.ticket_lock.specs.Layout.{first_words}
 use Rattle.ticket_lock.specs.Rule.{ObeysRule}
+use Rattle.ticket_lock.specs.Tokens.{caller_in}
 use Rattle.ticket_lock.specs.Views.{first_view}
-use Rattle.ticket_lock.proofs.FreshSeats.{fresh_token}
 use Rattle.ticket_lock.proofs.Obligations.{starts}
 use Rattle.ticket_lock.proofs.lock.TicketLock.open_with.Goals as goal
 
@@ -27,10 +28,8 @@ new-requires g c =
     (sym items) (starts k _ c.args.book (ap k.opening same) c.requires.empty.0 c.requires.empty.1 c.requires.numbers.0
     c.requires.numbers.1 (omega arith)))
 
-pub invariant_of-seat : goal.invariant_of-seat
-invariant_of-seat g c =
-    let counts : SeatCounts = record { number = 0; count = c.args.numbers; left = c.args.numbers * c.args.draws; calls = 0 } in
-    let left = ap (λ (n : ℕ). n * c.args.draws) (length-numbers_from 0 c.args.numbers) in
-    let t = fresh_token g.K.Kept counts c.args.numbers _ _ c.in-Ok-new.ensures.ok.4 refl refl c.requires.numbers.0 tt refl refl left refl c.requires.numbers.0
-    (omega (arith, c.requires.numbers.1)) (omega arith) in
-    record { bare = t.bare; legal = t.legal; idle = t.idle; agreement = t.agreement; fresh_is = t.fresh_is; range = t.range; row = t.row }
+pub returns-in-Ok-new-clause-seat : goal.returns-in-Ok-new-clause-seat
+returns-in-Ok-new-clause-seat g c =
+    let n : ℕ = c.args.numbers in
+    ap (λ s. caller_in s.me.0) c.with_all_draws-seat.ensures ∙ (ap (λ m. caller_in m.0) c.in-Ok-new.ensures.ok.4
+    ∙ ap (λ (l : ℕ). caller 0 (numbers_from 0 n) (l * c.args.draws) 0 true []) (length-numbers_from 0 n))

@@ -1,13 +1,12 @@
-use Rattle.std.proofs.Common.{rules, refl, ◌≡◌, ℕ, ◌+◌, ◌-◌, ◌*◌, ◌≤◌, List, arith, sym, ap, ◌∙◌, length, take, drop}
+use Rattle.std.proofs.Common.{rules, ◌≡◌, ℕ, ◌+◌, ◌-◌, ◌≤◌, List, arith, sym, ap, ◌∙◌, length, take, drop}
+use Rattle.ticket_steps.specs.Seats.{fresh_seat}
 use Rattle.ticket_steps.specs.Sums.{numbers_from}
 use Rattle.ticket_steps.proofs.SumLemmas.{drop-numbers_from, take-numbers_from}
-use Rattle.ticket_lock.specs.declared.tokens.SeatCounts.{SeatCounts}
 use Rattle.ticket_lock.specs.Tokens.{caller_in}
-use Rattle.ticket_lock.specs.Views.{draws_in, view_after_split}
-use Rattle.ticket_lock.proofs.Callers.{kept_len, given_len, keeping_is, given_is}
+use Rattle.ticket_lock.specs.Views.{draws_in}
+use Rattle.ticket_lock.proofs.Callers.{keeping_is, given_is}
 use Rattle.ticket_lock.proofs.Obligations.{splits}
 use Rattle.std.proofs.lemmas.Bool.{ltb-true}
-use Rattle.ticket_lock.proofs.FreshSeats.{fresh_token}
 use Rattle.ticket_lock.proofs.lock.TicketLock.split_by.Given.{Over}
 use Rattle.ticket_lock.proofs.lock.TicketLock.split_by.Goals.{After-split_seat-other}
 use Rattle.ticket_lock.proofs.lock.TicketLock.split_by.Goals as goal
@@ -39,51 +38,33 @@ in_row : (g : Over) (c : After-split_seat-other g) → let s = c.args.seat in
     (s.table_seat.me.0.seat.numbers ≡ numbers_from s.counts.number s.counts.count) × (s.counts.number + s.counts.count ≤ 1024)
 in_row g c = let s = c.args.seat in let some = ltb-true 0 s.parts (sym s.fresh_is ∙ c.requires.3) in (s.row some, s.range some)
 
-pub invariant_of-split_part : goal.invariant_of-split_part
-invariant_of-split_part g c =
+pub with_all_draws-split_part-requires-clause-seat : goal.with_all_draws-split_part-requires-clause-seat
+with_all_draws-split_part-requires-clause-seat g c =
     let s = c.args.seat in
     let v = s.table_seat.me.0 in
-    let before = in_row g (goal.at.invariant_of-split_part g c).After-split_seat-other in
-    let kept : ℕ = s.counts.count - c.args.count in
-    let counts : SeatCounts = record { number = s.counts.number + kept; count = c.args.count; left = c.args.count * c.args.self.now.draws; calls = 0 } in
-    let len = given_len v g.N.Count.count c.args.count c.args.self.now.draws (sym c.requires.0) (ap draws_in c.requires.4.1) (omega (arith, c.requires.2)) in
+    let before = in_row g (goal.at.with_all_draws-split_part-requires-clause-seat g c).After-split_seat-other in
+    let own : v.seat.own + (length v.seat.numbers - g.N.Count.count) ≡ s.counts.number + (s.counts.count - c.args.count) =
+    omega (arith, s.agreement.own, s.agreement.count, c.requires.0) in
     let row = last_of_row v.seat.numbers s.counts.number s.counts.count c.args.count g.N.Count.count before.0 s.agreement.count (sym c.requires.0)
     (omega (arith, c.requires.2, s.agreement.count)) in
-    let t = fresh_token g.K.Kept counts c.args.count _ _ c.split_seat-other.ensures.4 refl refl c.requires.1 s.legal
-    (omega (arith, s.agreement.own, s.agreement.count, c.requires.0)) row (λ i. len i * ap draws_in c.requires.4.1 i) refl c.requires.1
-    (omega (arith, before.1, c.requires.2, s.agreement.count)) (omega arith) in
-    record { bare = t.bare; legal = t.legal; idle = t.idle; agreement = t.agreement; fresh_is = t.fresh_is; range = t.range; row = t.row }
+    ap (λ m. m.0.seat) c.split_seat-other.ensures.4 ∙ (λ i. fresh_seat (draws_in (c.requires.4.1 i)) (own i) (row i) 0)
 
--- what is kept is as many numbers as the counts say
-kept_count : (g : Over) (c : After-split_seat-other g) → let n = length c.args.seat.table_seat.me.0.seat.numbers in
-    length (take (n - g.N.Count.count) c.args.seat.table_seat.me.0.seat.numbers) ≡ c.args.seat.counts.count - c.args.count
-kept_count g c =
-    kept_len c.args.seat.table_seat.me.0 g.N.Count.count c.args.count c.args.self.now.draws (sym c.requires.0) (ap draws_in c.requires.4.1)
-    (omega (arith, c.requires.2)) ∙ ap (λ (m : ℕ). m - c.args.count) c.args.seat.agreement.count
-
-pub invariant_of-seat : goal.invariant_of-seat
-invariant_of-seat g c =
-    let at = (goal.at.invariant_of-seat g c).After-split_seat-other in
+pub with_all_draws-seat-requires-clause-seat : goal.with_all_draws-seat-requires-clause-seat
+with_all_draws-seat-requires-clause-seat g c =
     let s = c.args.seat in
-    let before = in_row g at in
-    let kept : ℕ = s.counts.count - c.args.count in
-    let counts : SeatCounts = record { number = s.counts.number; count = kept; left = kept * c.args.self.now.draws; calls = s.counts.calls } in
+    let before = in_row g (goal.at.with_all_draws-seat-requires-clause-seat g c).After-split_seat-other in
     let row = first_of_row s.table_seat.me.0.seat.numbers s.counts.number s.counts.count c.args.count g.N.Count.count before.0 s.agreement.count
     (sym c.requires.0) in
-    let e = c.split_seat-other.ensures.2 ∙ ap (λ q. (view_after_split g.N.Count.count s.table_seat.me.0, q)) s.bare in
-    let t = fresh_token g.K.Kept counts kept _ _ e refl refl (omega (arith, c.requires.2, s.agreement.count)) s.legal s.agreement.own row
-    (λ i. kept_count g at i * ap draws_in c.requires.4.1 i) s.agreement.calls (omega (arith, c.requires.2, s.agreement.count)) (omega (arith, before.1))
-    s.agreement.bounded_calls in
-    record { bare = t.bare; legal = t.legal; idle = t.idle; agreement = t.agreement; fresh_is = t.fresh_is; range = t.range; row = t.row }
+    ap (λ m. m.0.seat) c.split_seat-other.ensures.2 ∙ (λ i. fresh_seat (draws_in (c.requires.4.1 i)) (s.agreement.own i) (row i) (s.agreement.calls i))
 
 pub returns-clause-kept : goal.returns-clause-kept
 returns-clause-kept g c =
     let is = keeping_is c.args.seat.table_seat.me.0 g.N.Count.count c.args.count c.args.self.now.draws (sym c.requires.0)
     (ap draws_in c.requires.4.1) (omega (arith, c.requires.2)) in
-    (search rules, ap (λ m. caller_in m.0) c.split_seat-other.ensures.2 ∙ is)
+    (search rules, ap (λ s. caller_in s.me.0) c.with_all_draws-seat.ensures ∙ (ap (λ m. caller_in m.0) c.split_seat-other.ensures.2 ∙ is))
 
 pub returns-clause-split_part : goal.returns-clause-split_part
 returns-clause-split_part g c =
     let is = given_is c.args.seat.table_seat.me.0 g.N.Count.count c.args.count c.args.self.now.draws (sym c.requires.0)
     (ap draws_in c.requires.4.1) (omega (arith, c.requires.2)) in
-    (search rules, ap (λ m. caller_in m.0) c.split_seat-other.ensures.4 ∙ is)
+    (search rules, ap (λ s. caller_in s.me.0) c.with_all_draws-split_part.ensures ∙ (ap (λ m. caller_in m.0) c.split_seat-other.ensures.4 ∙ is))
