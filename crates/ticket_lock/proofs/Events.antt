@@ -60,20 +60,20 @@ module _ {K C R : Type 0} (k : Ghosts K C R) (m : TableMoment K k.State C R) (is
   Homes = List (maybe.Option (Option K))
 
   -- the core state in which the lock was opened
-  abbrev pub opened : Core
-  opened = opening_core m.start.numbers m.start.draws (k.opening m.start.book)
+  abbrev pub opening_state : Core
+  opening_state = opening_core m.start.numbers m.start.draws (k.opening m.start.book)
 
   pub lawful : IsLawful m.start.numbers m.start.draws m.core
-  lawful = leads_lawful k m.start.draws m.start.numbers opened m.core m.happenings
+  lawful = leads_lawful k m.start.draws m.start.numbers opening_state m.core m.happenings
       (lawful_opened m.start.numbers m.start.draws (k.opening m.start.book) is.ruled.nonempty_numbers) is.ruled.words.leads
 
   pub lawful_book : IsLawfulBook k.step (k.opening m.start.book) m.core.book
-  lawful_book = leads_lawful_book k m.start.draws (k.opening m.start.book) opened m.core m.happenings
+  lawful_book = leads_lawful_book k m.start.draws (k.opening m.start.book) opening_state m.core m.happenings
       record { legal = tt; replayed = refl } is.ruled.words.leads
 
   -- a number that wasn't given out has no entries
   pub strangers_none : (n : ℕ) → m.start.numbers ≤ n → of n m.core.book.entries ≡ []
-  strangers_none n le = leads_strangers k m.start.draws m.start.numbers n opened m.core m.happenings
+  strangers_none n le = leads_strangers k m.start.draws m.start.numbers n opening_state m.core m.happenings
       (lawful_opened m.start.numbers m.start.draws (k.opening m.start.book) is.ruled.nonempty_numbers) le refl is.ruled.words.leads
 
   -- the next ticket is far from wrapping
@@ -181,7 +181,7 @@ module _ {K C R : Type 0} (k : Ghosts K C R) (m : TableMoment K k.State C R) (is
       (true_idle p m.me.0.seen true_here.seen refl) others_true
 
   -- a load after which the seat is the same in the core leaves the core state as it was
-  load_same : (hs : List (Happening C R)) (word : ℕ) (w : V) → Leads k m.start.draws opened hs m.core → w.seat ≡ m.me.0.seat
+  load_same : (hs : List (Happening C R)) (word : ℕ) (w : V) → Leads k m.start.draws opening_state hs m.core → w.seat ≡ m.me.0.seat
       → IsTrueView m.start m.core.book w
       → IsTableOf k m.start hs m.core (stepped m.table word (get_or m.table.words word 0) m.id m.me.1 w keeps)
   load_same hs word w leads same mine = record {
@@ -202,7 +202,7 @@ module _ {K C R : Type 0} (k : Ghosts K C R) (m : TableMoment K k.State C R) (is
   load_event : (h : Happening C R) (word : ℕ) (w : V) → Moves k m.start.draws m.core h m.core → w.seat ≡ m.me.0.seat
       → IsTrueView m.start m.core.book w → IsOneEvent k m h (stepped m.table word (get_or m.table.words word 0) m.id m.me.1 w keeps)
   load_event h word w move same mine =
-      (m.core, move, load_same _ word w (leads_more k m.start.draws opened m.core m.core m.happenings h is.ruled.words.leads move) same mine)
+      (m.core, move, load_same _ word w (leads_more k m.start.draws opening_state m.core m.core m.happenings h is.ruled.words.leads move) same mine)
 
   pub wait_event : (ticket : ℕ) → IsReady k m (look_waits ticket) → IsEventOf k m (look_waits ticket) (table_after k m (look_waits ticket))
   wait_event ticket ready = load_event (event.waited m.me.0.seat.own) (grant_word ticket) m.me.0

@@ -15,7 +15,8 @@ use Rattle.ticket_steps.specs.History.{replay, IsLegal}
 use Rattle.ticket_steps.specs.Seats.{tickets_of}
 use Rattle.ticket_steps.specs.Sums.{occurrences}
 use Rattle.ticket_steps.proofs.Lists.{at_within, set_here, set_else}
-use Rattle.ticket_steps.proofs.SeatLemmas.{alone_served, in_line, served_le, one_calls, tickets_waiting, tickets_holding, waits_in_line, no_holder, taken_at_home}
+use Rattle.ticket_steps.proofs.SeatLemmas.{alone_served, in_line, served_le, one_calls, tickets_waiting, tickets_holding, waits_in_line}
+use Rattle.ticket_steps.proofs.SeatLemmas.{no_holder, taken_at_home}
 use Rattle.ticket_steps.proofs.SumLemmas.{occurrences-same, term_le}
 use Rattle.ticket_lock.specs.declared.views.Start.{Start}
 use Rattle.ticket_lock.specs.declared.views.View.{View}

@@ -109,5 +109,6 @@ module _ {C R : Type 0} where
       (subst (λ (l : List (Entry C R)). IsPrefix seen l) (sym is) (prefix_then seen log zs f.0), λ p has. still p has ∙ f.1 p has)
 
   -- the same for fewer numbers
-  pub follows_fewer : (ms ns : List ℕ) (seen log : List (Entry C R)) → Follows ns seen log → ((p : ℕ) → 0 < occurrences p ms → 0 < occurrences p ns) → Follows ms seen log
+  pub follows_fewer : (ms ns : List ℕ) (seen log : List (Entry C R)) → Follows ns seen log
+      → ((p : ℕ) → 0 < occurrences p ms → 0 < occurrences p ns) → Follows ms seen log
   follows_fewer ms ns seen log f fewer = (f.0, λ p has. f.1 p (fewer p has))

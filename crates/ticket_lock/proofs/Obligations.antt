@@ -170,7 +170,8 @@ module _ {K C R : Type 0} (k : Ghosts K C R) (start : Start K) where
       → (posted ≡ false → IsBookAfterCall k o me.0.seat.own me.0.seen me.0.refused None book)
       → (posted ≡ true → IsBookAfterPost k o me.0.seen me.0.refused book)
       → Allows Rule n id me word (λ _. t + 1) (λ _. LeaveFact k (step n word (t + 1) 0 none) me (t + 1))
-  leaves laws posted n id t word me book o is carries holder known recorded posts = rw is (leaves_at laws posted n id t me book o carries holder known recorded posts)
+  leaves laws posted n id t word me book o is carries holder known recorded posts =
+      rw is (leaves_at laws posted n id t me book o carries holder known recorded posts)
 
   posts_at : AreLaws k → (n id t place : ℕ) (me : Seat) (book : K) (o : Start K) → me.0.seat.phase ≡ Holding t
       → me.0.start ≡ Some o → IsBookAfterCall k o me.0.seat.own me.0.seen me.0.refused (Some place) book

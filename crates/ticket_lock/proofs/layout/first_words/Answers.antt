@@ -21,5 +21,6 @@ loop-place-preserved g c =
 
 pub returns : goal.returns
 returns g c =
-    let all = copied-all _ c.loop-place.place c.words-count.result c.words-count.ensures (omega (arith, c.loop-place-test.false, c.loop-place.auto.place-end)) in
+    let all = copied-all _ c.loop-place.place c.words-count.result c.words-count.ensures
+    (omega (arith, c.loop-place-test.false, c.loop-place.auto.place-end)) in
     c.loop-place.invariant.0 ∙ ap first_words all

@@ -17,7 +17,8 @@ laws_of : (g : Over) → AreLaws g.K.Kept
 laws_of g = record { legal = g.met.K.Kept.legal; replayed = g.met.K.Kept.replayed; unposted = g.met.K.Kept.unposted; posted = g.met.K.Kept.posted }
 
 pub load-granted-requires : goal.load-granted-requires
-load-granted-requires g c = let s = c.args.turn in (search rules, search rules, looks g.K.Kept _ (laws_of g) _ _ s.ticket _ _ c.grant_word.ensures.place s.waits s.bare)
+load-granted-requires g c =
+    let s = c.args.turn in (search rules, search rules, looks g.K.Kept _ (laws_of g) _ _ s.ticket _ _ c.grant_word.ensures.place s.waits s.bare)
 
 pub invariant_of-hold : goal.invariant_of-hold
 invariant_of-hold g c =
@@ -28,7 +29,8 @@ invariant_of-hold g c =
     let same : book ≡ t.0 = ap (book_or t.0) (sym c.take_book-book.ensures.book ∙ ap (λ m. m.1) t.1) in
     let now : c.take_book-book.new.table_seat.me.0 ≡ view_after_look k s.ticket s.table_seat.me.0 book =
     ap (λ m. m.0) c.take_book-book.ensures.taken ∙ (ap (λ m. m.0) t.1 ∙ ap (view_after_look k s.ticket s.table_seat.me.0) (sym same)) in
-    let handed = subst (IsHandedOut k (start_of c.args.self.now) s.table_seat.me.0.seat.numbers s.table_seat.me.0.seen s.ticket) (sym same) (t.2 _ c.requires.1).0 in
+    let handed =
+    subst (IsHandedOut k (start_of c.args.self.now) s.table_seat.me.0.seat.numbers s.table_seat.me.0.seen s.ticket) (sym same) (t.2 _ c.requires.1).0 in
     record {
       bounded = handed.bounded;
       out = ap (λ m. m.1) c.take_book-book.ensures.taken;

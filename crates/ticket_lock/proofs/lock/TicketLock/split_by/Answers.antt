@@ -4,7 +4,7 @@ use Rattle.ticket_steps.specs.Sums.{numbers_from}
 use Rattle.ticket_steps.proofs.SumLemmas.{drop-numbers_from, take-numbers_from}
 use Rattle.ticket_lock.specs.Tokens.{caller_in}
 use Rattle.ticket_lock.specs.Views.{draws_in}
-use Rattle.ticket_lock.proofs.Callers.{keeping_is, given_is}
+use Rattle.ticket_lock.proofs.Callers.{kept_caller_is, given_caller_is}
 use Rattle.ticket_lock.proofs.Obligations.{splits}
 use Rattle.std.proofs.lemmas.Bool.{ltb-true}
 use Rattle.ticket_lock.proofs.lock.TicketLock.split_by.Given.{Over}
@@ -59,12 +59,12 @@ with_all_draws-seat-requires-clause-seat g c =
 
 pub returns-clause-kept : goal.returns-clause-kept
 returns-clause-kept g c =
-    let is = keeping_is c.args.seat.table_seat.me.0 g.N.Count.count c.args.count c.args.self.now.draws (sym c.requires.0)
+    let is = kept_caller_is c.args.seat.table_seat.me.0 g.N.Count.count c.args.count c.args.self.now.draws (sym c.requires.0)
     (ap draws_in c.requires.4.1) (omega (arith, c.requires.2)) in
     (search rules, ap (λ s. caller_in s.me.0) c.with_all_draws-seat.ensures ∙ (ap (λ m. caller_in m.0) c.split_seat-other.ensures.2 ∙ is))
 
 pub returns-clause-split_part : goal.returns-clause-split_part
 returns-clause-split_part g c =
-    let is = given_is c.args.seat.table_seat.me.0 g.N.Count.count c.args.count c.args.self.now.draws (sym c.requires.0)
+    let is = given_caller_is c.args.seat.table_seat.me.0 g.N.Count.count c.args.count c.args.self.now.draws (sym c.requires.0)
     (ap draws_in c.requires.4.1) (omega (arith, c.requires.2)) in
     (search rules, ap (λ s. caller_in s.me.0) c.with_all_draws-split_part.ensures ∙ (ap (λ m. caller_in m.0) c.split_seat-other.ensures.4 ∙ is))
