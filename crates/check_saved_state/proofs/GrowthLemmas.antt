@@ -1,24 +1,19 @@
 -- A table that grows reads the texts of earlier formats as before; and an object is read by its values alone.
 use Rattle.std.proofs.Common.{◌≡◌, ℕ, ◌&&◌, ◌||◌, not, Bool, true, false, cond, List, [], ◌∷◌, ◌++◌, map, Option, Some, None, String, Global, string_bytes}
 use Rattle.std.proofs.Common.{bytes_eq, option_and_then, option_map, refl, sym, ap, ◌∙◌}
-use Rattle.std.specs.Prelude.{is_none, nat_le, slice_get, unwrap_or}
+use Rattle.std.specs.Prelude.{is_none, nat_le, unwrap_or}
 use Rattle.std.specs.List.{list_all, list_any}
 use Rattle.std.specs.Map.{keys_of}
 use Rattle.std.proofs.lemmas.Bool.{and_parts}
 use Rattle.serde_json.specs.Data.{Data}
-use Rattle.serde_json.specs.Find.{as_bool, as_object, as_str}
+use Rattle.serde_json.specs.Find.{as_object}
 use Rattle.serde_json.specs.View.{members_view}
 use Rattle.serde_json.specs.declared.value.Value.{Value}
-use Rattle.setup_reader.specs.JsonTree.{whole_number, ◌>=>◌}
 use Rattle.setup_reader.specs.Shapes.{first_of, keys_in}
 use Rattle.setup_model.proofs.ListLemmas.{list_any-map}
-use Rattle.check_states.specs.Words.{kind_of_word, state_of_word}
 use Rattle.check_saved_state.specs.declared.table.Member.{Member}
-use Rattle.check_saved_state.specs.Reading.{object_in, object_with_letters, optional_number, optional_run, scheduling_in, standing_in, standing_with}
-use Rattle.check_saved_state.specs.Saved.{SavedObject}
-use Rattle.check_saved_state.specs.Scheduling.{OpenRun}
+use Rattle.check_saved_state.specs.Object.{object_in, object_of_values, optional_run}
 use Rattle.check_saved_state.specs.Table.{Added, Row, as_row, default_by, defaults, found_in, has_only_members, is_in, is_known, object_members, value_at, values_in}
-use Rattle.check_saved_state.specs.Words.{flapping_of_word, only_letters}
 
 -- ---- the members of the code's map
 
@@ -90,48 +85,10 @@ grown format ms others d h =
 
 -- ---- an object by its values
 
-abbrev object_by : (Data → Option (Option OpenRun)) → List (Option Data) → Option SavedObject
-object_by run_of values =
-    let value : ℕ → Option Data = λ i. unwrap_or (slice_get values i) None in
-    let text : ℕ → Option (List ℕ) = λ i. option_and_then as_str (value i) in
-    let whole : ℕ → Option ℕ = λ i. option_and_then whole_number (value i) in
-    let switch : ℕ → Option Bool = λ i. option_and_then as_bool (value i) in
-    text 0 >=> λ name.
-    ((switch 5 >=> λ checked.
-    (text 1 >=> state_of_word >=> λ state.
-    (text 2 >=> kind_of_word >=> λ kind.
-    (whole 3 >=> λ attempt.
-    (text 4 >=> state_of_word >=> λ last_hard.
-    (text 6 >=> flapping_of_word >=> λ flapping.
-    Some (standing_with checked state kind attempt last_hard flapping))))))) >=> λ standing.
-    (text 7 >=> only_letters >=> λ letters.
-    ((option_and_then optional_number (value 8) >=> λ next.
-    (option_and_then run_of (value 9) >=> λ run.
-    (switch 10 >=> λ enabled.
-    (switch 11 >=> λ forced.
-    Some (record { next = next; run = run; enabled = enabled; forced = forced }))))) >=> λ scheduling.
-    (whole 12 >=> λ interval.
-    (whole 13 >=> λ max_attempts.
-    (switch 14 >=> λ setup_enabled.
-    Some (object_with_letters name standing letters scheduling interval max_attempts setup_enabled)))))))
-
-object_seen : (format : ℕ) (d : Data)
-    → object_in format d ≡ cond (has_only_members format object_members d) (object_by (optional_run format) (map (value_at format d) object_members)) None
-unfolding object_in standing_in scheduling_in
-object_seen format d = refl
-
-by_same : {A B : Type 0} (b c : Bool) (x y : A) (f : A → Option B) → cond b (Some x) None ≡ cond c (Some y) None → cond b (f x) None ≡ cond c (f y) None
-by_same true true x y f e = let same : x ≡ y = cc in ap f same
-by_same true false x y f e = cc
-by_same false true x y f e = cc
-by_same false false x y f e = refl
-
 pub by_values : (format other : ℕ) (d e : Data) → values_in format object_members d ≡ values_in other object_members e
     → ((run : Data) → optional_run format run ≡ optional_run other run) → object_in format d ≡ object_in other e
+unfolding object_in
 by_values format other d e same runs =
     let run_of : optional_run format ≡ optional_run other = λ i run. runs run i in
-    object_seen format d
-    ∙ by_same (has_only_members format object_members d) (has_only_members other object_members e) (map (value_at format d) object_members)
-    (map (value_at other e) object_members) (object_by (optional_run format)) same
-    ∙ ap (λ f. cond (has_only_members other object_members e) (object_by f (map (value_at other e) object_members)) None) run_of
-    ∙ sym (object_seen other e)
+    ap (option_and_then (object_of_values (optional_run format))) same
+    ∙ ap (λ f. option_and_then (object_of_values f) (values_in other object_members e)) run_of

@@ -1,4 +1,5 @@
 pub mod BracketLemmas
+pub mod FitLemmas
 pub mod GrowthLemmas
 pub mod InverseLemmas
 pub mod NameLemmas
@@ -10,3 +11,4 @@ pub mod SizeLemmas
 pub mod TornLemmas
 pub mod TreeLemmas
 pub mod VerifiedLemmas
+pub mod WriteLemmas

@@ -8,6 +8,7 @@ use Rattle.std.proofs.lemmas.Fmt.{IsAscii-decimal}
 use Rattle.std.proofs.lemmas.Str.{IsUtf8-append, IsUtf8-from_ascii, IsUtf8-nil}
 use Rattle.json.specs.Json as json
 use Rattle.json.specs.Lex.{tokens}
+use Rattle.json.specs.Print.{ArePrintable}
 use Rattle.json.specs.Token.{Token}
 use Rattle.json.specs.Tree as tree
 use Rattle.json.proofs.Printed.Decimals.{IsNumber-decimal}
@@ -15,9 +16,9 @@ use Rattle.json.proofs.Printed.Tokens.{tokens-print}
 use Rattle.json.proofs.Printed.Trees.{ArePrintable-json_tokens, value-json_tokens}
 use Rattle.json.proofs.Printed.Utf8.{IsUtf8-are_ascii, IsUtf8-boolean, IsUtf8-quoted, are_ascii}
 use Rattle.serde_json.specs.Data.{unsigned, negative, float, Data, null, boolean, number, string, array, object, Items, no_items, item, Members, no_members}
-use Rattle.serde_json.specs.Data.{member, put, depth, items_depth, members_depth}
+use Rattle.serde_json.specs.Data.{member, put}
 use Rattle.serde_json.specs.Read.{read, max_depth, of_json, of_items, of_members}
-use Rattle.serde_json.specs.Written.{comma_if, compact_text, has_float, items_have_float, items_outline, items_text, members_have_float, members_outline, members_text, outline}
+use Rattle.serde_json.specs.Written.{comma_if, compact_text, items_outline, items_text, members_outline, members_text, outline}
 use Rattle.serde_json.proofs.Numbers.{number_of-decimal}
 use Rattle.serde_json.proofs.Texts.{print-outline}
 
@@ -71,7 +72,7 @@ mutual
   of_members_outline (member k d ms) found h = rw (of_outline d h.0) (of_members_outline ms (put k d found) h.1)
 
 mutual
-  pub numbers_outline : (d : Data) → IsPlain d → tree.HasNumbers (outline d)
+  numbers_outline : (d : Data) → IsPlain d → tree.HasNumbers (outline d)
   numbers_outline null h = tt
   numbers_outline (boolean b) h = tt
   numbers_outline (number (unsigned n)) h = IsNumber-decimal n h
@@ -89,33 +90,21 @@ mutual
   members_numbers_outline no_members h = tt
   members_numbers_outline (member k d ms) h = (numbers_outline d h.0, members_numbers_outline ms h.1)
 
-mutual
-  depth_outline : (d : Data) → tree.depth (outline d) ≡ depth d
-  depth_outline null = refl
-  depth_outline (boolean b) = refl
-  depth_outline (number n) = refl
-  depth_outline (string s) = refl
-  depth_outline (array ds) = ap suc (items_depth_outline ds)
-  depth_outline (object ms) = ap suc (members_depth_outline ms)
-
-  items_depth_outline : (ds : Items) → tree.items_depth (items_outline ds) ≡ items_depth ds
-  items_depth_outline no_items = refl
-  items_depth_outline (item d ds) = rw (depth_outline d, items_depth_outline ds) refl
-
-  members_depth_outline : (ms : Members) → tree.members_depth (members_outline ms) ≡ members_depth ms
-  members_depth_outline no_members = refl
-  members_depth_outline (member k d ms) = rw (depth_outline d, members_depth_outline ms) refl
-
 abbrev last_of : Option (json.Json × List Token) → Option Data
 last_of o = option_and_then of_json (option_and_then (λ p. json.if_last p.0 p.1) o)
 
-pub read_compact : (d : Data) → IsPlain d → depth d ≤ max_depth → read (compact_text d) ≡ Some d
+pub printable : (d : Data) → IsPlain d → ArePrintable (tree.json_tokens (outline d))
+printable d plain = ArePrintable-json_tokens (outline d) (numbers_outline d plain)
+
+pub tokens_of_text : (d : Data) → IsPlain d → tokens (compact_text d) ≡ tree.json_tokens (outline d)
+tokens_of_text d plain = ap tokens (sym (print-outline d)) ∙ tokens-print (tree.json_tokens (outline d)) (printable d plain)
+
+pub read_compact : (d : Data) → IsPlain d → tree.depth (outline d) ≤ max_depth → read (compact_text d) ≡ Some d
 read_compact d plain shallow =
     let ts = tree.json_tokens (outline d) in
-    let printed : tokens (compact_text d) ≡ ts =
-    ap tokens (sym (print-outline d)) ∙ tokens-print ts (ArePrintable-json_tokens (outline d) (numbers_outline d plain)) in
-    let deep = depth_outline d in
-    ap last_of (ap (json.value max_depth) (printed ∙ sym (append-nil ts)) ∙ value-json_tokens (outline d) max_depth [] (omega arith)) ∙ of_outline d plain
+    ap last_of
+    (ap (json.value max_depth) (tokens_of_text d plain ∙ sym (append-nil ts)) ∙ value-json_tokens (outline d) max_depth [] (omega (arith, shallow)))
+    ∙ of_outline d plain
 
 -- ---- its bytes
 
@@ -151,24 +140,3 @@ mutual
       (IsUtf8-append _ (58 ∷ (compact_text d ++ members_text true ms)) (IsUtf8-quoted k (IsUtf8-are_ascii k keys.0))
       (one_byte 58 (compact_text d ++ members_text true ms) (IsUtf8-are_ascii (58 ∷ []) refl)
       (IsUtf8-append (compact_text d) (members_text true ms) (text_is_utf8 d h.0) (members_are_utf8 true ms keys.1 h.1))))
-
--- ---- no floats
-
-mutual
-  pub has_none : (d : Data) → IsPlain d → has_float d ≡ false
-  has_none null h = refl
-  has_none (boolean b) h = refl
-  has_none (number (unsigned n)) h = refl
-  has_none (number (negative z)) h = refl
-  has_none (number (float x)) h = absurd h
-  has_none (string s) h = refl
-  has_none (array ds) h = items_have_none ds h
-  has_none (object ms) h = members_have_none ms h.2
-
-  items_have_none : (ds : Items) → ArePlain ds → items_have_float ds ≡ false
-  items_have_none no_items h = refl
-  items_have_none (item d ds) h = rw (has_none d h.0) (items_have_none ds h.1)
-
-  members_have_none : (ms : Members) → HavePlain ms → members_have_float ms ≡ false
-  members_have_none no_members h = refl
-  members_have_none (member k d ms) h = rw (has_none d h.0) (members_have_none ms h.1)

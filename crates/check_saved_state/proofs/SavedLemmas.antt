@@ -8,7 +8,7 @@ use Rattle.setup_reader.specs.JsonTree.{tree_of}
 use Rattle.check_saved_state.specs.Reading.{draft_in, format_test}
 use Rattle.check_saved_state.specs.Text.{saved_of_text, saved_of_tree}
 use Rattle.std.specs.List.{after_first, before_first, list_all, list_any, position, position_or_len}
-use Rattle.std.proofs.lemmas.Bool.{and_parts, cases_lt, eqb-true, leb-true}
+use Rattle.std.proofs.lemmas.Bool.{and_parts, cases_lt, eqb-true, leb-true, not-true, or_parts}
 use Rattle.std.proofs.lemmas.Bool.Decides.{nat_tests}
 use Rattle.std.proofs.lemmas.List.Folds.{list_any-append}
 use Rattle.std.proofs.lemmas.List.Sums.{passes_at_first, prefix_len-le-length, split_at_first}
@@ -22,7 +22,7 @@ use Rattle.check_states.specs.declared.standing.Kind.{Kind}
 use Rattle.check_states.specs.declared.standing.Kind.TheVariants as kind
 use Rattle.check_states.specs.declared.standing.Standing.{Standing}
 use Rattle.check_states.specs.declared.state.State as rules
-use Rattle.check_states.specs.declared.state.State.TheVariants as state
+use Rattle.check_states.proofs.Cases.{each_state}
 use Rattle.check_states.specs.Flapping.{AreResultsFor}
 use Rattle.check_states.specs.Standing.{IsStandingFor, is_lawful, pending_standing}
 use Rattle.check_states.specs.State.{ok_or_up_state, is_host_state, is_of_sort, is_problem}
@@ -71,10 +71,6 @@ mapped_at f (x ∷ xs) zero o e = let same : x ≡ o = cc in ap (λ y. Some (f y
 mapped_at f (x ∷ xs) (suc i) o e = mapped_at f xs i o e
 
 -- ---- no key twice
-
-or_parts : (a b : Bool) → (a || b) ≡ false → (a ≡ false) × (b ≡ false)
-or_parts true b e = cc
-or_parts false b e = (refl, e)
 
 unmet_by : (b : Bool) (i : ℕ) (rest : Option ℕ) → cond b (Some i) rest ≡ None → (b ≡ false) × (rest ≡ None)
 unmet_by true i rest e = cc
@@ -150,37 +146,19 @@ full_name_by name e = host_by name (is_host_name name) refl e
 
 sort_by : (host : Bool) (s : rules.State) → is_of_sort host s ≡ true → is_host_state s ≡ host
 sort_by true s e = e
-sort_by false state.Ok e = refl
-sort_by false state.Warning e = refl
-sort_by false state.Critical e = refl
-sort_by false state.Unknown e = refl
-sort_by false state.Up e = cc
-sort_by false state.Down e = cc
-sort_by false state.Unreachable e = cc
+sort_by false s e = not-true (is_host_state s) e
 
 fine_by : (host : Bool) (s : rules.State) → is_of_sort host s ≡ true → not (is_problem s) ≡ true → s ≡ ok_or_up_state host
-fine_by true state.Ok e f = cc
-fine_by true state.Warning e f = cc
-fine_by true state.Critical e f = cc
-fine_by true state.Unknown e f = cc
-fine_by true state.Up e f = refl
-fine_by true state.Down e f = cc
-fine_by true state.Unreachable e f = cc
-fine_by false state.Ok e f = refl
-fine_by false state.Warning e f = cc
-fine_by false state.Critical e f = cc
-fine_by false state.Unknown e f = cc
-fine_by false state.Up e f = cc
-fine_by false state.Down e f = cc
-fine_by false state.Unreachable e f = cc
+fine_by true =
+    each_state (λ s. is_of_sort true s ≡ true → not (is_problem s) ≡ true → s ≡ ok_or_up_state true) (λ e f. cc) (λ e f. cc) (λ e f. cc) (λ e f. cc) (λ e f. refl)
+    (λ e f. cc) (λ e f. cc)
+fine_by false =
+    each_state (λ s. is_of_sort false s ≡ true → not (is_problem s) ≡ true → s ≡ ok_or_up_state false) (λ e f. refl) (λ e f. cc) (λ e f. cc) (λ e f. cc) (λ e f. cc)
+    (λ e f. cc) (λ e f. cc)
 
 hard_by : (k : Kind) → is_hard k ≡ true → k ≡ kind.Hard
 hard_by kind.Soft e = cc
 hard_by kind.Hard e = refl
-
-not_by : (b : Bool) → not b ≡ true → b ≡ false
-not_by true e = cc
-not_by false e = refl
 
 pending_by : (host checked flapping : Bool) (s last_hard : rules.State) (k : Kind) (attempt : ℕ) → checked ≡ false → s ≡ ok_or_up_state host → k ≡ kind.Hard
     → attempt ≡ 1 → last_hard ≡ ok_or_up_state host → flapping ≡ false
@@ -207,7 +185,7 @@ standing_by host max s e =
           let n = and_parts (not (is_problem s.state) && is_hard s.kind) (s.attempt == 1) l.0 in
           let k = and_parts (not (is_problem s.state)) (is_hard s.kind) n.0 in
           pending_by host s.checked s.flapping s.state s.last_hard s.kind s.attempt unchecked (fine_by host s.state c.1 k.0) (hard_by s.kind k.1)
-          (eqb-true s.attempt 1 n.1) (fine_by host s.last_hard b.1 l.1) (not_by s.flapping f.1);
+          (eqb-true s.attempt 1 n.1) (fine_by host s.last_hard b.1 l.1) (not-true s.flapping f.1);
     }
 
 pub results_by : (host : Bool) (results : List rules.State) → are_possible_results host results ≡ true → AreResultsFor host results

@@ -11,7 +11,6 @@ use Rattle.json.specs.Print.{ArePrintable, ends, print, print_from, separator}
 use Rattle.json.specs.Token.{Token, begin_object, end_object, key}
 use Rattle.json.specs.Tree.{json_tokens, items_tokens, members_tokens}
 use Rattle.json.proofs.Printed.Tokens.{print_from_push, tokens-print}
-use Rattle.json.proofs.Printed.Trees.{ArePrintable-json_tokens}
 use Rattle.json.proofs.Unique.Spelling.{value-json_tokens_back}
 use Rattle.serde_json.specs.Read.{max_depth, of_json, read}
 use Rattle.serde_json.specs.Written.{outline}
@@ -24,9 +23,8 @@ use Rattle.check_saved_state.specs.Text.{saved_of_text, saved_of_tree, saved_tex
 use Rattle.check_saved_state.specs.Tree.{saved_tree}
 use Rattle.check_saved_state.proofs.BracketLemmas.{AreGood, brackets, is_good, front_open, lexed, lexed_splits, members_open, one_more_open, open_after, open_members}
 use Rattle.check_saved_state.proofs.BracketLemmas.{punctuated_has, value_closes}
-use Rattle.check_saved_state.proofs.InverseLemmas.{saved_plain}
-use Rattle.check_saved_state.proofs.PlainLemmas.{numbers_outline}
-use Rattle.check_saved_state.proofs.SizeLemmas.{text_fits}
+use Rattle.check_saved_state.proofs.FitLemmas.{saved_fits}
+use Rattle.check_saved_state.proofs.PlainLemmas.{printable}
 
 -- ---- tokens without a fault
 
@@ -157,9 +155,9 @@ members_in other = json.no_members
 pub torn : (saved : Saved) (front rest : List ℕ) (next : ℕ) → IsSaved saved → saved_text saved ≡ front ++ next ∷ rest
     → saved_of_text front ≡ Err faults.NotJson
 torn saved front rest next h is =
-    let printable = ArePrintable-json_tokens (outline (saved_tree saved)) (numbers_outline (saved_tree saved) (saved_plain saved h)) in
-    let fits = text_fits saved h in
+    let fit = saved_fits saved h in
+    let fits = fit.2 in
     let lengths = ap length is ∙ length-append front (next ∷ rest) in
     let short : nat_lt 16777216 (length front) ≡ false = grind (arith, nat_tests, fits, lengths) in
     rw short (ap (λ r. r >>= saved_of_tree) (tree_none front faults.NotJson (λ _.
-    unread (members_in (outline (saved_tree saved))) front rest next printable (print-outline (saved_tree saved) ∙ is))))
+    unread (members_in (outline (saved_tree saved))) front rest next (printable (saved_tree saved) fit.0) (print-outline (saved_tree saved) ∙ is))))

@@ -1,59 +1,26 @@
--- The tree of what is saved nests a few levels deep, and says what was saved.
-use Rattle.std.proofs.Common.{◌≡◌, ℕ, suc, ◌+◌, ◌≤◌, Bool, true, false, List, [], ◌∷◌, Option, Some, None, option_and_then, cond, Ok, refl, ap, arith}
-use Rattle.std.specs.Prelude.{max, nat_lt, slice_get}
+-- The tree of what is saved is read as what was saved.
+use Rattle.std.proofs.Common.{◌≡◌, ℕ, suc, ◌+◌, Bool, true, false, List, [], ◌∷◌, Option, Some, None, option_and_then, cond, Ok, refl, ap}
+use Rattle.std.specs.Prelude.{nat_lt, slice_get}
 use Rattle.std.specs.List.{list_all}
 use Rattle.std.proofs.lemmas.Bool.{and_parts}
-use Rattle.serde_json.specs.Data.{depth, items_depth, string}
+use Rattle.serde_json.specs.Data.{string}
 use Rattle.serde_json.specs.Find.{as_str}
 use Rattle.setup_reader.specs.JsonTree.{◌>=>◌}
 use Rattle.setup_model.specs.Name.{is_host_name}
 use Rattle.check_states.specs.declared.standing.Kind.{Kind}
 use Rattle.check_states.specs.declared.standing.Kind.TheVariants as kind
 use Rattle.check_states.specs.declared.state.State as rules
-use Rattle.check_states.specs.declared.state.State.TheVariants as state
 use Rattle.check_states.proofs.Cases.{each_state}
 use Rattle.check_states.specs.State.{is_of_sort}
-use Rattle.check_saved_state.specs.Reading.{draft_in, draft_of, letters_member, object_in, objects_from, optional_number, optional_run, scheduling_in}
-use Rattle.check_saved_state.specs.Reading.{standing_in}
+use Rattle.check_saved_state.specs.Object.{object_in, object_of_values, object_tree, optional_number, optional_run, run_tree, time_tree}
+use Rattle.check_saved_state.specs.Reading.{draft_in, draft_of, objects_from}
 use Rattle.check_saved_state.specs.Saved.{IsSaved, IsSavedObject, Saved, SavedObject}
 use Rattle.check_saved_state.specs.Scheduling.{OpenRun}
 use Rattle.check_saved_state.specs.Table.{newest_format, of_kind}
 use Rattle.check_saved_state.specs.declared.table.ValueKind.TheVariants as row
-use Rattle.check_saved_state.specs.Tree.{object_tree, objects_tree, run_tree, saved_tree, time_tree}
+use Rattle.check_saved_state.specs.Tree.{objects_tree, saved_tree}
 use Rattle.check_states.specs.Words.{is_letter, kind_word, state_of_letter, state_letter, state_word, kind_of_word, state_of_word}
-use Rattle.check_saved_state.specs.Words.{are_letters, flapping_of_word, flapping_word, letters_of, results_of_letters}
-
--- ---- few levels
-
-time_depth : (time : Option ℕ) → depth (time_tree time) ≡ 0
-time_depth None = refl
-time_depth (Some time) = refl
-
-run_depth : (run : Option OpenRun) → depth (run_tree run) ≤ 1
-run_depth None = omega arith
-run_depth (Some run) = omega arith
-
-max_zero : (n : ℕ) → max 0 n ≡ n
-max_zero n = omega arith
-
-object_depth : (o : SavedObject) → depth (object_tree o) ≤ 2
-object_depth o =
-    let run = run_depth o.scheduling.run in
-    simp (time_depth, max_zero) (omega arith)
-
-objects_depth : (objects : List SavedObject) → items_depth (objects_tree objects) ≤ 2
-objects_depth [] = omega arith
-objects_depth (o ∷ os) =
-    let one = object_depth o in
-    let more = objects_depth os in
-    omega arith
-
-pub saved_depth : (saved : Saved) → depth (saved_tree saved) ≤ 127
-saved_depth saved =
-    let objects = objects_depth saved.objects in
-    simp max_zero (omega arith)
-
--- ---- what was written is what is read
+use Rattle.check_saved_state.specs.Words.{are_letters, flapping_of_word, flapping_word, letters_of, only_letters, results_of_letters}
 
 -- each of these is what the reader finds of a member
 state_back : (s : rules.State) → (option_and_then as_str (of_kind row.State (Some (string (state_word s)))) >=> state_of_word) ≡ Some s
@@ -87,20 +54,10 @@ letters_are [] = refl
 letters_are (s ∷ ss) = rw ((letter_fits s).0) (letters_are ss)
 
 letter_back : (host : Bool) (s : rules.State) → is_of_sort host s ≡ true → state_of_letter host (state_letter s) ≡ s
-letter_back true state.Ok e = cc
-letter_back true state.Warning e = cc
-letter_back true state.Critical e = cc
-letter_back true state.Unknown e = cc
-letter_back true state.Up e = refl
-letter_back true state.Down e = refl
-letter_back true state.Unreachable e = refl
-letter_back false state.Ok e = refl
-letter_back false state.Warning e = refl
-letter_back false state.Critical e = refl
-letter_back false state.Unknown e = refl
-letter_back false state.Up e = cc
-letter_back false state.Down e = cc
-letter_back false state.Unreachable e = cc
+letter_back true =
+    each_state (λ s. is_of_sort true s ≡ true → state_of_letter true (state_letter s) ≡ s) (λ e. cc) (λ e. cc) (λ e. cc) (λ e. cc) (λ e. refl) (λ e. refl) (λ e. refl)
+letter_back false =
+    each_state (λ s. is_of_sort false s ≡ true → state_of_letter false (state_letter s) ≡ s) (λ e. refl) (λ e. refl) (λ e. refl) (λ e. refl) (λ e. cc) (λ e. cc) (λ e. cc)
 
 letters_back : (host : Bool) (results : List rules.State) → list_all (is_of_sort host) results ≡ true → results_of_letters host (letters_of results) ≡ results
 letters_back host [] e = refl
@@ -108,25 +65,26 @@ letters_back host (s ∷ ss) e =
     let p = and_parts (is_of_sort host s) (list_all (is_of_sort host) ss) e in
     rw (letter_back host s p.0, letters_back host ss p.1) refl
 
-standing_back : (o : SavedObject) → standing_in newest_format (object_tree o) ≡ Some o.standing
-unfolding standing_in
-standing_back o =
-    let s = o.standing in
-    rw (state_back s.state, kind_back s.kind, state_back s.last_hard, flapping_back s.flapping) refl
-
-scheduling_back : (o : SavedObject) → scheduling_in newest_format (object_tree o) ≡ Some o.scheduling
-unfolding scheduling_in
-scheduling_back o = rw (time_back o.scheduling.next, run_back o.scheduling.run) refl
-
-letters_there : (o : SavedObject) → letters_member newest_format (object_tree o) ≡ Some (letters_of o.results)
-letters_there o =
-    let are = letters_are o.results in
-    rw are (ap (λ b. cond b (Some (letters_of o.results)) None) are)
+text_back : (results : List rules.State)
+    → (option_and_then as_str (of_kind row.Letters (Some (string (letters_of results)))) >=> only_letters) ≡ Some (letters_of results)
+text_back results =
+    let are = letters_are results in
+    rw are (ap (λ b. cond b (Some (letters_of results)) None) are)
 
 object_back : (o : SavedObject) → list_all (is_of_sort (is_host_name o.name)) o.results ≡ true → object_in newest_format (object_tree o) ≡ Some o
-unfolding object_in
+unfolding object_in object_of_values
 object_back o sorted =
-    rw (standing_back o, letters_there o, scheduling_back o, letters_back (is_host_name o.name) o.results sorted) refl
+    let s = o.standing in
+    rw (
+      state_back s.state,
+      kind_back s.kind,
+      state_back s.last_hard,
+      flapping_back s.flapping,
+      text_back o.results,
+      time_back o.scheduling.next,
+      run_back o.scheduling.run,
+      letters_back (is_host_name o.name) o.results sorted,
+    ) refl
 
 objects_back : (runs : ℕ) (objects : List SavedObject) (i : ℕ) → ((place : ℕ) (o : SavedObject) → slice_get objects place ≡ Some o → IsSavedObject runs o)
     → objects_from newest_format i (objects_tree objects) ≡ Ok objects

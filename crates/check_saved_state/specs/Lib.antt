@@ -3,10 +3,9 @@ pub mod Saved
 pub mod SavedViews
 pub mod Words
 pub mod Table
+pub mod Object
 pub mod Tree
-pub mod Members
 pub mod SavedFault
 pub mod Reading
-pub mod DraftViews
 pub mod Verification
 pub mod Text

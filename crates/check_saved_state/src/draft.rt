@@ -23,7 +23,7 @@ pub(crate) struct StandingDraft {
 
 impl Model for StandingDraft {
     ghost use Rattle.check_states.specs.declared.standing.Standing as rules;
-    ghost use Rattle.check_saved_state.specs.Reading.{standing_with};
+    ghost use Rattle.check_saved_state.specs.Object.{standing_with};
 
     ghost Value = { rules.Standing };
 
@@ -72,12 +72,21 @@ pub(crate) struct ObjectDraft<'v> {
 }
 
 impl<'v> Model for ObjectDraft<'v> {
+    ghost use Rattle.setup_model.specs.Name.{is_host_name};
     ghost use Rattle.check_saved_state.specs.Saved as spec;
-    ghost use Rattle.check_saved_state.specs.DraftViews.{object_draft};
+    ghost use Rattle.check_saved_state.specs.Words.{results_of_letters};
 
     ghost Value = { spec.SavedObject };
 
-    ghost view = { object_draft };
+    ghost view = { λ d. record {
+      name = d.name.now;
+      standing = d.standing;
+      results = results_of_letters (is_host_name d.name.now) d.letters.now;
+      scheduling = d.scheduling;
+      interval = d.interval;
+      max_attempts = d.max_attempts;
+      setup_enabled = d.setup_enabled;
+    } };
 }
 
 /// The whole text. Contracts see it as a saved state, without further conditions.

@@ -1,152 +1,146 @@
-//! The tree of a saved state, as `serde_json` writes it.
+//! Writes a saved state as JSON. The members of each object are in the order of their names.
 
-ghost use Rattle.std.specs.Prelude.{◌≡◌, IfOk, OnOk, map};
-ghost use Rattle.serde_json.specs.Data.{put, string};
-ghost use Rattle.serde_json.specs.View.{members_view, view};
-ghost use Rattle.check_saved_state.specs.Members.{scheduling_members, setup_members, standing_members, state_members};
+ghost use Rattle.std.specs.Prelude.{◌∷◌, OnOk};
+ghost use Rattle.json.specs.Token.{key};
+ghost use Rattle.serde_json.specs.Data.{array, boolean, null, string};
+ghost use Rattle.check_saved_state.specs.Object.{number_tree, object_tree, run_tree, time_tree};
 ghost use Rattle.check_saved_state.specs.Saved.{IsSaved};
-ghost use Rattle.check_saved_state.specs.Tree.{object_tree, run_tree, saved_tree};
+ghost use Rattle.check_saved_state.specs.Tree.{Adds, objects_tree, saved_tree, tokens_after, tokens_of};
 
 use crate::result_letters::letters_of;
 use crate::saved::{Saved, SavedObject, SavedRun};
 use crate::table::FORMAT;
 use crate::words::flapping_word;
-use check_states::Standing;
-use serde_json::{Map, Value, json, put};
+use json::Writer;
 use std::alloc::{AllocError, Global};
 
-/// The tree of a saved state.
-pub(crate) fn saved_value(alloc: Global, saved: &Saved) -> Result<Value, AllocError>
-    ensures tree { IfOk result (λ tree. view tree ≡ saved_tree saved.now) }
+/// Writes a saved state.
+pub(crate) fn write_saved(out: &mut Writer, alloc: Global, saved: &Saved) -> Result<(), AllocError>
+    ensures written { OnOk result (Adds out.old out.new (tokens_of (saved_tree saved.now))) }
     ensures saved { OnOk result (IsSaved saved.now) }
 {
-    let objects = object_values(alloc, saved.objects())?;
-    json!(in alloc; {"format": FORMAT, "start": saved.start(), "runs": saved.runs(), "objects": objects})
+    out.begin_object()?;
+    write_number(out, "format", FORMAT)?;
+    out.key("objects")?;
+    write_objects(out, alloc, saved.objects())?;
+    write_number(out, "runs", saved.runs())?;
+    write_number(out, "start", saved.start())?;
+    out.end_object()
 }
 
-fn object_values(alloc: Global, objects: &[SavedObject]) -> Result<Vec<Value>, AllocError>
-    ensures { IfOk result (λ trees. map view trees.items ≡ map object_tree objects.now) }
+fn write_objects(out: &mut Writer, alloc: Global, objects: &[SavedObject]) -> Result<(), AllocError>
+    ensures { OnOk result (Adds out.old out.new (tokens_of (array (objects_tree objects.now)))) }
 {
-    let mut trees = Vec::with_capacity(alloc, objects.len())?;
+    out.begin_array()?;
     for object in objects {
-        trees.push(object_value(alloc, object)?)?;
+        write_object(out, alloc, object)?;
     }
-    Ok(trees)
+    out.end_array()
 }
 
-#[tactic(auto, unfolding(crate::specs::Members::members_put))]
-fn object_value(alloc: Global, object: &SavedObject) -> Result<Value, AllocError>
-    ensures { IfOk result (λ tree. view tree ≡ object_tree object.now) }
+fn write_object(out: &mut Writer, alloc: Global, object: &SavedObject) -> Result<(), AllocError>
+    ensures { OnOk result (Adds out.old out.new (tokens_of (object_tree object.now))) }
 {
-    let mut members = Map::new(alloc);
-    put_standing(&mut members, alloc, object.standing)?;
-    put_scheduling(&mut members, alloc, object)?;
-    put_setup(&mut members, alloc, object)?;
-    put_word(&mut members, alloc, "name", object.name.as_str())?;
-    put(
-        &mut members,
-        alloc,
-        "results",
-        Value::String(letters_of(alloc, &object.results)?),
-    )?;
-    Ok(Value::Object(members))
+    out.begin_object()?;
+    write_number(out, "attempt", u64::from(object.standing.attempt))?;
+    write_number(out, "check_interval", object.interval)?;
+    write_switch(out, "checked", object.standing.checked)?;
+    write_switch(out, "enabled", object.enabled)?;
+    write_switch(out, "enabled_in_setup", object.setup_enabled)?;
+    write_from_flapping(out, alloc, object)
 }
 
-/// Puts the members for the standing of an object.
-#[tactic(auto, unfolding(crate::specs::Members::standing_members))]
-fn put_standing(
-    members: &mut Map<String, Value>,
-    alloc: Global,
-    standing: Standing,
-) -> Result<(), AllocError>
-    ensures { OnOk result (members_view members.new.entries
-        ≡ standing_members standing (members_view members.old.entries)) }
-{
-    put_states(members, alloc, standing)?;
-    put(members, alloc, "attempt", Value::from(standing.attempt))?;
-    put(members, alloc, "checked", Value::Bool(standing.checked))?;
-    put_word(members, alloc, "flapping", flapping_word(standing.flapping))
-}
-
-/// Puts the members for an object's states.
-#[tactic(auto, unfolding(crate::specs::Members::state_members))]
-fn put_states(
-    members: &mut Map<String, Value>,
-    alloc: Global,
-    standing: Standing,
-) -> Result<(), AllocError>
-    ensures { OnOk result (members_view members.new.entries
-        ≡ state_members standing (members_view members.old.entries)) }
-{
-    put_word(members, alloc, "state", standing.state.word())?;
-    put_word(members, alloc, "last_hard_state", standing.last_hard.word())?;
-    put_word(members, alloc, "kind", standing.kind.word())
-}
-
-/// Puts the members for the scheduling of an object.
-#[tactic(auto, unfolding(crate::specs::Members::scheduling_members))]
-fn put_scheduling(
-    members: &mut Map<String, Value>,
+/// Writes the members from the sixth on, and closes the object.
+fn write_from_flapping(
+    out: &mut Writer,
     alloc: Global,
     object: &SavedObject,
 ) -> Result<(), AllocError>
-    ensures { OnOk result (members_view members.new.entries
-        ≡ scheduling_members object.now.scheduling (members_view members.old.entries)) }
+    ensures { OnOk result (Adds out.old out.new (tokens_after 5 object.now)) }
 {
-    put(members, alloc, "next_check", Value::from(object.next))?;
-    put(members, alloc, "run", run_value(alloc, object.run)?)?;
-    put(members, alloc, "enabled", Value::Bool(object.enabled))?;
-    put(members, alloc, "forced", Value::Bool(object.forced))
+    let standing = object.standing;
+    write_text(out, "flapping", flapping_word(standing.flapping))?;
+    write_switch(out, "forced", object.forced)?;
+    write_text(out, "kind", standing.kind.word())?;
+    write_text(out, "last_hard_state", standing.last_hard.word())?;
+    write_number(out, "max_check_attempts", u64::from(object.max_attempts))?;
+    write_from_name(out, alloc, object)
 }
 
-/// Puts the members for an object's values in its setup.
-#[tactic(auto, unfolding(crate::specs::Members::setup_members))]
-fn put_setup(
-    members: &mut Map<String, Value>,
+/// Writes the members from the eleventh on, and closes the object.
+fn write_from_name(out: &mut Writer, alloc: Global, object: &SavedObject) -> Result<(), AllocError>
+    ensures { OnOk result (Adds out.old out.new (tokens_after 10 object.now)) }
+{
+    write_text(out, "name", object.name.as_str())?;
+    write_time(out, "next_check", object.next)?;
+    write_from_results(out, alloc, object)
+}
+
+/// Writes the members from the thirteenth on, and closes the object.
+fn write_from_results(
+    out: &mut Writer,
     alloc: Global,
     object: &SavedObject,
 ) -> Result<(), AllocError>
-    ensures { OnOk result (members_view members.new.entries
-        ≡ setup_members object.now (members_view members.old.entries)) }
+    ensures { OnOk result (Adds out.old out.new (tokens_after 12 object.now)) }
 {
-    put(
-        members,
-        alloc,
-        "check_interval",
-        Value::from(object.interval),
-    )?;
-    put(
-        members,
-        alloc,
-        "max_check_attempts",
-        Value::from(object.max_attempts),
-    )?;
-    put(
-        members,
-        alloc,
-        "enabled_in_setup",
-        Value::Bool(object.setup_enabled),
-    )
+    let letters = letters_of(alloc, &object.results)?;
+    write_text(out, "results", letters.as_str())?;
+    write_run(out, "run", object.run)?;
+    write_text(out, "state", object.standing.state.word())?;
+    out.end_object()
 }
 
-/// Puts a member whose value is this text.
-fn put_word(
-    members: &mut Map<String, Value>,
-    alloc: Global,
-    name: &str,
-    word: &str,
-) -> Result<(), AllocError>
-    ensures { OnOk result (members_view members.new.entries
-        ≡ put name.now (string word.now) (members_view members.old.entries)) }
+// ---- members
+
+fn write_number(out: &mut Writer, name: &str, number: u64) -> Result<(), AllocError>
+    ensures { OnOk result (Adds out.old out.new (key name.now ∷ tokens_of (number_tree number))) }
 {
-    put(members, alloc, name, Value::try_from_str(alloc, word)?)
+    out.key(name)?;
+    out.u64(number)
 }
 
-fn run_value(alloc: Global, run: Option<SavedRun>) -> Result<Value, AllocError>
-    ensures { IfOk result (λ tree. view tree ≡ run_tree run) }
+fn write_switch(out: &mut Writer, name: &str, is_on: bool) -> Result<(), AllocError>
+    ensures { OnOk result (Adds out.old out.new (key name.now ∷ tokens_of (boolean is_on))) }
 {
-    match run {
-        Some(run) => json!(in alloc; {"number": run.number, "start": run.start}),
-        None => Ok(Value::Null),
+    out.key(name)?;
+    out.boolean(is_on)
+}
+
+fn write_text(out: &mut Writer, name: &str, text: &str) -> Result<(), AllocError>
+    ensures { OnOk result (Adds out.old out.new (key name.now ∷ tokens_of (string text.now))) }
+{
+    out.key(name)?;
+    out.string(text)
+}
+
+/// Writes a time, or `null` if no time is set.
+fn write_time(out: &mut Writer, name: &str, time: Option<u64>) -> Result<(), AllocError>
+    ensures { OnOk result (Adds out.old out.new (key name.now ∷ tokens_of (time_tree time))) }
+{
+    match time {
+        Some(time) => write_number(out, name, time),
+        None => write_null(out, name),
     }
+}
+
+/// Writes a run, or `null`.
+fn write_run(out: &mut Writer, name: &str, run: Option<SavedRun>) -> Result<(), AllocError>
+    ensures { OnOk result (Adds out.old out.new (key name.now ∷ tokens_of (run_tree run))) }
+{
+    let Some(run) = run else {
+        return write_null(out, name);
+    };
+    out.key(name)?;
+    out.begin_object()?;
+    write_number(out, "number", run.number)?;
+    write_number(out, "start", run.start)?;
+    out.end_object()
+}
+
+fn write_null(out: &mut Writer, name: &str) -> Result<(), AllocError>
+    ensures { OnOk result (Adds out.old out.new (key name.now ∷ tokens_of null)) }
+{
+    out.key(name)?;
+    out.null()
 }

@@ -5,7 +5,7 @@ ghost use Rattle.std.specs.List.{list_all};
 ghost use Rattle.serde_json.specs.Data.{Data};
 ghost use Rattle.check_saved_state.specs.declared.saved.TheConstants.{MAX_SAVED_BYTES};
 ghost use Rattle.check_saved_state.specs.declared.fault.SavedFault.TheVariants as SavedFault;
-ghost use Rattle.check_saved_state.specs.Reading.{object_in, optional_run};
+ghost use Rattle.check_saved_state.specs.Object.{object_in, optional_run};
 ghost use Rattle.check_saved_state.specs.Saved.{IsSaved, Saved};
 ghost use Rattle.check_saved_state.specs.Table.{Row, defaults, document_members, have_defaults_of_their_kinds, is_in};
 ghost use Rattle.check_saved_state.specs.Table.{object_members, run_members, values_in};

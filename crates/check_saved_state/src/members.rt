@@ -4,8 +4,8 @@ ghost use Rattle.std.specs.Prelude.{◌≡◌, ◌&&◌, map, option_map, string
 ghost use Rattle.std.specs.List.{list_all, list_any};
 ghost use Rattle.std.specs.BTreeMap.{keys};
 ghost use Rattle.serde_json.specs.View.{items_view, view};
-ghost use Rattle.check_saved_state.specs.Reading.{bool_member, list_member, number_member, optional_number, optional_number_member};
-ghost use Rattle.check_saved_state.specs.Reading.{state_member, text_member};
+ghost use Rattle.check_saved_state.specs.Object.{bool_member, list_member, number_member, optional_number, optional_number_member};
+ghost use Rattle.check_saved_state.specs.Object.{state_member, text_member};
 ghost use Rattle.check_saved_state.specs.Table.{as_row, found_in, has_kind, has_only_members, is_in};
 
 use crate::result_letters::only_letters;

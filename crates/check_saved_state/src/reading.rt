@@ -3,8 +3,8 @@
 
 ghost use Rattle.std.specs.Prelude.{◌≡◌, option_map};
 ghost use Rattle.serde_json.specs.View.{items_view, view};
-ghost use Rattle.check_saved_state.specs.Reading.{draft_in, draft_of, format_in, format_test, letters_member, object_in, objects_from};
-ghost use Rattle.check_saved_state.specs.Reading.{run_in_tree, optional_run, optional_run_member, scheduling_in, standing_in};
+ghost use Rattle.check_saved_state.specs.Object.{object_in, optional_run, optional_run_member, run_in_tree};
+ghost use Rattle.check_saved_state.specs.Reading.{draft_in, draft_of, format_in, format_test, objects_from};
 ghost use Rattle.check_saved_state.specs.SavedFault.{IsExpectedResult};
 ghost use Rattle.check_saved_state.specs.Table.{as_row, is_format};
 
@@ -103,58 +103,33 @@ fn read_objects<'v>(
     Ok(objects)
 }
 
-#[tactic(auto, unfolding(crate::specs::Reading::object_in))]
+#[tactic(auto, unfolding(crate::specs::Object::object_in, crate::specs::Object::object_of_values))]
 fn read_object<'v>(format: u64, value: &'v Value) -> Option<ObjectDraft<'v>>
     ensures { result ≡ object_in format (view value.now) }
 {
     if !has_only_members(format, &OBJECT_MEMBERS, value) {
         return None;
     }
-    let name = text_member(format, value, NAME)?;
-    let standing = read_standing(format, value)?;
-    let letters = read_letters(format, value)?;
-    let scheduling = read_scheduling(format, value)?;
     Some(ObjectDraft {
-        name,
-        standing,
-        letters,
-        scheduling,
+        name: text_member(format, value, NAME)?,
+        standing: StandingDraft {
+            state: state_member(format, value, STATE)?,
+            kind: Kind::from_word(text_member(format, value, KIND)?)?,
+            attempt: number_member(format, value, ATTEMPT)?,
+            last_hard: state_member(format, value, LAST_HARD_STATE)?,
+            checked: bool_member(format, value, CHECKED)?,
+            flapping: flapping_of_word(text_member(format, value, FLAPPING)?)?,
+        },
+        letters: only_letters(text_member(format, value, RESULTS)?)?,
+        scheduling: SchedulingDraft {
+            next: optional_number_member(format, value, NEXT_CHECK)?,
+            run: optional_run_member(format, value, RUN)?,
+            enabled: bool_member(format, value, ENABLED)?,
+            forced: bool_member(format, value, FORCED)?,
+        },
         interval: number_member(format, value, CHECK_INTERVAL)?,
         max_attempts: number_member(format, value, MAX_CHECK_ATTEMPTS)?,
         setup_enabled: bool_member(format, value, ENABLED_IN_SETUP)?,
-    })
-}
-
-#[tactic(auto, unfolding(crate::specs::Reading::standing_in))]
-fn read_standing(format: u64, value: &Value) -> Option<StandingDraft>
-    ensures { result ≡ standing_in format (view value.now) }
-{
-    Some(StandingDraft {
-        checked: bool_member(format, value, CHECKED)?,
-        state: state_member(format, value, STATE)?,
-        kind: Kind::from_word(text_member(format, value, KIND)?)?,
-        attempt: number_member(format, value, ATTEMPT)?,
-        last_hard: state_member(format, value, LAST_HARD_STATE)?,
-        flapping: flapping_of_word(text_member(format, value, FLAPPING)?)?,
-    })
-}
-
-/// The letters of results, if the text has no other bytes.
-fn read_letters<'v>(format: u64, value: &'v Value) -> Option<&'v str>
-    ensures { option_map (λ letters. letters.now) result ≡ letters_member format (view value.now) }
-{
-    only_letters(text_member(format, value, RESULTS)?)
-}
-
-#[tactic(auto, unfolding(crate::specs::Reading::scheduling_in))]
-fn read_scheduling(format: u64, value: &Value) -> Option<SchedulingDraft>
-    ensures { result ≡ scheduling_in format (view value.now) }
-{
-    Some(SchedulingDraft {
-        next: optional_number_member(format, value, NEXT_CHECK)?,
-        run: optional_run_member(format, value, RUN)?,
-        enabled: bool_member(format, value, ENABLED)?,
-        forced: bool_member(format, value, FORCED)?,
     })
 }
 

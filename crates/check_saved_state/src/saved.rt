@@ -52,12 +52,19 @@ pub struct SavedObject {
 
 impl Model for SavedObject {
     ghost use Rattle.check_saved_state.specs.Saved as spec;
+    ghost use Rattle.std.specs.Prelude.{string_bytes};
 
     ghost Value = { spec.SavedObject };
 
-    ghost use Rattle.check_saved_state.specs.SavedViews.{object_view};
-
-    ghost view = { object_view };
+    ghost view = { λ o. record {
+      name = string_bytes o.name;
+      standing = o.standing;
+      results = o.results.items;
+      scheduling = record { next = o.next; run = o.run; enabled = o.enabled; forced = o.forced };
+      interval = o.interval;
+      max_attempts = o.max_attempts;
+      setup_enabled = o.setup_enabled;
+    } };
 }
 
 /// All of a scheduler except its setup: the number of runs handed out, the moment at which scheduling

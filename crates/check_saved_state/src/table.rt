@@ -70,7 +70,7 @@ impl DefaultValue {
     ghost use Rattle.serde_json.specs.Find.{as_array, as_bool, as_str};
     ghost use Rattle.serde_json.specs.View.{items_view};
     ghost use Rattle.setup_reader.specs.JsonTree.{whole_number};
-    ghost use Rattle.check_saved_state.specs.Reading.{optional_number, optional_run};
+    ghost use Rattle.check_saved_state.specs.Object.{optional_number, optional_run};
     ghost use Rattle.check_saved_state.specs.Table.{default_tree};
 
     /// The number, if it is one.

@@ -2,18 +2,20 @@
 use crate::draft::{ObjectDraft, SavedDraft};
 use crate::fault::SavedFault;
 use crate::invariants::verify_possible;
-use crate::json_writer::saved_value;
+use crate::json_writer::write_saved;
 use crate::reading::{read_draft, verify_format};
 use crate::saved::{MAX_SAVED_BYTES, Saved, SavedObject};
 use crate::verification::verify_draft;
+use json::Writer;
 use serde_json::Value;
 use setup_model::Fault;
 use setup_reader::read_tree;
 use std::alloc::{AllocError, Global};
 
 impl Saved {
-    ghost use Rattle.std.specs.Prelude.{◌≡◌, ◌<◌, ◌≤◌, Err, IfOk, Ok, length};
+    ghost use Rattle.std.specs.Prelude.{◌≡◌, ◌<◌, ◌≤◌, ◌++◌, Err, IfOk, Ok, length};
     ghost use Rattle.setup_reader.specs.Feeds.{HasNoLineFeed};
+    ghost use Rattle.check_saved_state.specs.Saved.{IsSaved};
     ghost use Rattle.check_saved_state.specs.SavedFault.{IsExpectedResult};
     ghost use Rattle.check_saved_state.specs.Text.{saved_of_text, saved_text};
 
@@ -21,15 +23,27 @@ impl Saved {
     /// read as the same saved state.
     ///
     /// An error means out of memory. There is no other error.
+    #[tactic(auto, using(crate::proofs::InverseLemmas::one_line, crate::proofs::InverseLemmas::fits, crate::proofs::InverseLemmas::inverse))]
     pub fn write(&self, alloc: Global) -> Result<Vec<u8>, AllocError>
         ensures text { IfOk result (λ text. text.items ≡ saved_text self.now) }
         ensures one_line { IfOk result (λ text. HasNoLineFeed text.items) }
         ensures fits { IfOk result (λ text. length text.items ≤ 16777216) }
         ensures reads_back { IfOk result (λ text. saved_of_text text.items ≡ Ok self.now) }
     {
-        let tree = saved_value(alloc, self)?;
-        let text = tree.to_vec(alloc)?;
+        let text = self.write_after(alloc, Vec::new(alloc))?;
         Ok(text)
+    }
+
+    /// Writes the same text behind other bytes, in their buffer.
+    ///
+    /// An error means out of memory. There is no other error.
+    pub fn write_after(&self, alloc: Global, front: Vec<u8>) -> Result<Vec<u8>, AllocError>
+        ensures text { IfOk result (λ text. text.items ≡ front.items ++ saved_text self.now) }
+        ensures saved { IfOk result (λ text. IsSaved self.now) }
+    {
+        let mut out = Writer::new(front);
+        write_saved(&mut out, alloc, self)?;
+        Ok(out.into_inner())
     }
 
     /// Reads a saved state from a text. The members can be in any order. An error is the first refusal.

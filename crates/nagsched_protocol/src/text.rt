@@ -240,10 +240,9 @@ pub fn push_total(line: &mut String, entries: usize, refused: u64) -> Pushed
 pub(crate) fn saved_line(alloc: Global, sched: &Sched) -> Result<Vec<u8>, AllocError>
     ensures { IfOk result (λ line. line.items ≡ saved_line sched.now) }
 {
-    let text = sched.save(alloc)?.write(alloc)?;
-    let mut line = Vec::new(alloc);
-    line.extend_from_slice(b"saved ")?;
-    line.extend_from_slice(&text)?;
+    let mut front = Vec::new(alloc);
+    front.extend_from_slice(b"saved ")?;
+    let mut line = sched.save(alloc)?.write_after(alloc, front)?;
     line.push(b'\n')?;
     Ok(line)
 }
