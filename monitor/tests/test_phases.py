@@ -87,7 +87,7 @@ class Phases(SiteTest):
         self.assertEqual([next_in_phase(7, 10, now) for now in (0, 6, 7, 16, 17, 100)], [7, 7, 17, 17, 27, 107])
 
     def test_what_is_moved_back(self) -> None:
-        for next_check, wanted in ((10_000, None), (10_250, None), (9_750, None), (10_251, 20_000), (9_749, 20_000), (15_000, 20_000), (None, None)):
+        for next_check, wanted in ((10_000, None), (10_450, None), (9_550, None), (10_451, 20_000), (9_549, 20_000), (15_000, 20_000), (None, None)):
             self.assertEqual(time_back_in_phase(0, 10_000, next_check, 12_000), wanted, next_check)
         self.assertEqual((time_back_in_phase(None, 10_000, 15_000, 0), time_back_in_phase(0, 0, 15_000, 0)), (None, None))
 

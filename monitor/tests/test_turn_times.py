@@ -7,7 +7,7 @@ from unittest import mock
 
 from nagsched_monitor.model.clock import Clock
 from nagsched_monitor.model.objects import ENOUGH, LONGEST_SHARING, DueQueue
-from nagsched_monitor.program.loop import BETWEEN_TURNS, Loop, next_turn_time
+from nagsched_monitor.program.loop import BEFORE_RESULTS, BETWEEN_TURNS, Loop, next_turn_time
 from nagsched_monitor.system.poller import FilePoller
 
 INTERVAL = 10_000
@@ -23,7 +23,7 @@ def turns(a_second: int, until: int) -> Tuple[List[float], List[float]]:
         shared = max(time for time in heapq.nsmallest(ENOUGH, waiting) if time <= first + window)
         now = next_turn_time(begun[-1], first, shared)
         # The results of this turn have a turn of their own if the next one is far off.
-        begun.append(begun[-1] + BETWEEN_TURNS if now is None else now)
+        begun.append(begun[-1] + BEFORE_RESULTS if now is None else now)
         if now is None:
             begun.append(first)
         while waiting[0] <= begun[-1]:
@@ -35,7 +35,7 @@ def turns(a_second: int, until: int) -> Tuple[List[float], List[float]]:
 class Turns(unittest.TestCase):
     def test_how_many_and_how_late(self) -> None:
         """At each rate: the most turns per second, and the longest delay of a check, in the first round and in later ones."""
-        for a_second, most_turns in ((1, 2), (5, 5), (8, 4), (10, 7), (13, 5), (18, 5), (25, 5), (40, 5), (100, 5), (200, 7), (500, 16), (800, 20)):
+        for a_second, most_turns in ((1, 2), (5, 3), (8, 3), (10, 3), (13, 3), (18, 3), (25, 3), (40, 3), (100, 3), (200, 3), (500, 5), (800, 8), (2_000, 20)):
             with self.subTest(a_second=a_second):
                 _, at_first = turns(a_second, INTERVAL)
                 begun, late = turns(a_second, 5 * INTERVAL)
@@ -46,11 +46,11 @@ class Turns(unittest.TestCase):
     def test_checks_that_are_due_soon_after_each_other_share_a_turn_from_then_on(self) -> None:
         begun, late = turns(18, 3 * INTERVAL)
         self.assertAlmostEqual(max(late), 0)
-        self.assertEqual(len([each for each in begun if 20_000 <= each < 29_900]), 44)
+        self.assertEqual(len([each for each in begun if 20_000 <= each < 29_900]), 25)
 
     def test_a_turn_isn_t_begun_before_the_last_one_is_rested(self) -> None:
-        self.assertEqual(next_turn_time(1_000, 1_010, None), 1_000 + BETWEEN_TURNS)
-        self.assertEqual(next_turn_time(1_000, 1_010, 1_040), 1_000 + BETWEEN_TURNS)
+        self.assertEqual(next_turn_time(1_000, 1_005, None), 1_000 + BETWEEN_TURNS)
+        self.assertEqual(next_turn_time(1_000, 1_005, 1_008), 1_000 + BETWEEN_TURNS)
         self.assertEqual(next_turn_time(1_000, 1_010, 1_200), 1_200)
         self.assertIsNone(next_turn_time(1_000, 2_000, 2_010))
 

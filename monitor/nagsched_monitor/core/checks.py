@@ -7,14 +7,14 @@ from functools import partial
 from typing import Callable, Dict, List, Mapping, NamedTuple, Optional, Sequence, Tuple
 
 from ..model.clock import Clock
-from ..model.objects import HOST_FIRST, RESULT_FIRST, ObjectDefinition, ObjectState
+from ..model.objects import HOST_FIRST, LONGEST_SHARING, RESULT_FIRST, ObjectDefinition, ObjectState
 from ..model.protocol import NO_PROBLEM, Enable, Reschedule, Standing, Take
 from ..scheduler.scheduling import Plan, Scheduling
 from .passive import PassiveResults
 
 WINDOW = 15_000  # the time within which overdue checks are made, in milliseconds, unless their interval is shorter
 # The greatest difference from the phase that a next check may keep, in milliseconds.
-TOLERANCE = 250
+TOLERANCE = LONGEST_SHARING + 100
 # The time after two intervals and the limit of the plugin until an object is overdue, and between two log lines about overdue objects, in milliseconds.
 MARGIN = 60_000
 LOG_AGAIN = 600_000

@@ -146,8 +146,8 @@ class ObjectState:
 
 
 # How many objects are enough for one turn, and how long one object waits for others, in milliseconds. Objects that are due together wait half as long.
-ENOUGH = 32
-LONGEST_SHARING = 200
+ENOUGH = 100
+LONGEST_SHARING = 350
 
 
 @dataclass
@@ -181,11 +181,11 @@ class DueQueue:
             heapq.heappop(self._heap)
         return self._heap[0][0] if self._heap else None
 
-    def shared_time(self) -> Optional[int]:
+    def shared_time(self, enough: int = ENOUGH) -> Optional[int]:
         """The time at which enough objects are due for one turn, or at which the last of those is due that share a turn with the first."""
         first = latest = self.first_time() or 0
         together: Set[Tuple[int, ObjectKey]] = set()
-        while len(together) < ENOUGH and (time := self.first_time()) is not None and time <= latest:
+        while len(together) < enough and (time := self.first_time()) is not None and time <= latest:
             together.add(heapq.heappop(self._heap))
             if time == first:
                 latest = first + LONGEST_SHARING // min(2, len(together))

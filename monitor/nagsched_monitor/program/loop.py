@@ -6,11 +6,12 @@ from typing import Callable, Optional, Sequence
 
 from ..core.engine import Engine
 from ..model.clock import Clock
-from ..model.objects import LONGEST_SHARING
+from ..model.objects import ENOUGH, LONGEST_SHARING
 from ..system.poller import FilePoller
 
-# All times are in milliseconds. The least time from one turn to the next, and how far off a due check may be so that results wait for its turn.
-BETWEEN_TURNS, LONGEST_UNREPORTED = 50, 250
+# All times are in milliseconds. The least time from one turn to the next, the same for a turn of results alone, and how far off a due check may be so that
+# results wait for its turn.
+BETWEEN_TURNS, BEFORE_RESULTS, LONGEST_UNREPORTED = 10, 50, LONGEST_SHARING + 100
 CHORES_EVERY = 1_000
 # The wait after a turn that raised an exception; the number of such turns in a row after which the process ends, and its status then.
 AFTER_FAULT = 1_000
@@ -46,7 +47,8 @@ class Loop:
             wanted = begun + AFTER_FAULT
             self._handle_fault()
         if self.status is None:
-            self.wait(begun, wanted, self._engine.scheduling.states.due.shared_time())
+            scheduling = self._engine.scheduling
+            self.wait(begun, wanted, scheduling.states.due.shared_time(min(ENOUGH, (scheduling.site.options.slots + 1) // 2)))
 
     def _turn(self, begun: int) -> int:
         waits = [each() for each in self._before]
@@ -77,11 +79,11 @@ class Loop:
             self._poller.wait(0)
             return
         next_turn = next_turn_time(begun, wanted, shared)
-        self._sleep_until(begun + BETWEEN_TURNS if next_turn is None else next_turn)
+        self._sleep_until(begun + BEFORE_RESULTS if next_turn is None else next_turn)
         if self._poller.wait(0) or next_turn is not None or not self._poller.wait(wanted - self._clock.moment()):
             return
         now = self._clock.moment()
-        self._sleep_until(wanted if wanted <= now + LONGEST_UNREPORTED else now + BETWEEN_TURNS)
+        self._sleep_until(wanted if wanted <= now + LONGEST_UNREPORTED else now + BEFORE_RESULTS)
         self._poller.wait(0)
 
     def _sleep_until(self, at: float) -> None:

@@ -24,7 +24,7 @@ LONGEST_LINE = 1_048_576
 # The least time from one start of a runner to the next, in seconds. It doubles up to the longest. After a runner that ran that long, it is the first again.
 PAUSE, LONGEST_PAUSE = 1.0, 60.0
 LATE = 10.0  # the longest delay of a plugin's result after its limit, in seconds
-TOGETHER = 4  # how many jobs a process of this machine gets before another one is woken
+TOGETHER = 8  # how many jobs a process of this machine gets before another one is woken
 
 
 def raise_file_limit() -> int:
@@ -107,7 +107,7 @@ class RunnerPool:
                 process.unsent += b'{"job":%d,%s\n' % (self._number, job_members(tuple(job.arguments), job.limit))
         while self._slots is not None and self._waiting and now - self._waiting[0][1] >= self._wait:
             self._add_event(JobLost(self._waiting.popleft()[0], f"the runner {self._name} didn't take it"))
-        for process in list(self.processes):
+        for process in [each for each in self.processes if each.unsent]:
             try:
                 write_ready(process.reads_from, process.unsent)
             except OSError:
