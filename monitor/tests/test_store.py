@@ -1,5 +1,6 @@
 """The database: changed rows are found, and a failed write changes nothing."""
 import contextlib
+import gc
 import os
 import sqlite3
 from typing import List
@@ -242,6 +243,7 @@ class Database(SiteTest):
         store.write(store_figures({"calls": 7.0}))
 
     def test_a_new_database_leaves_no_file_open(self) -> None:
+        gc.collect()  # it closes what other tests left open
         store, count = self.filled(), len(os.listdir("/proc/self/fd"))
         store.renew()
         self.assertEqual(len(os.listdir("/proc/self/fd")), count)

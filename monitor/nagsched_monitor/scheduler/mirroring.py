@@ -24,7 +24,7 @@ LIMIT = 60.0  # the limit for the program's test of a state, in seconds
 
 class Mirrors:
     def __init__(self, names: Mapping[int, AbstractSet[str]], running: RunTable) -> None:
-        self.names, self._running = names, running
+        self.names, self._running = {part: its for part, its in names.items() if its}, running
         self._expected: Set[ObjectKey] = set()
 
     def parts_of(self, name: str) -> Sequence[int]:

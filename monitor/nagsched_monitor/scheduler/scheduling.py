@@ -192,8 +192,7 @@ class Scheduling:
     def is_reportable(self, key: ObjectKey) -> bool:
         """Whether a result of an object can be reported now, to it and to its mirrors."""
         part, name = key
-        mirrors = self.mirrors.parts_of(name)
-        return all(map(self.is_open, [part, *mirrors])) and all((other, name) in self.states.running for other in mirrors)
+        return self.is_open(part) and all(self.is_open(other) and (other, name) in self.states.running for other in self.mirrors.parts_of(name))
 
     def store_calls(self, planned: Sequence[PlannedCall], writes: Sequence[Write] = ()) -> None:
         """Stores these calls with the other writes; the next `make_calls` makes them. If something can't be stored, nothing is, and `NotStored` is raised."""

@@ -89,9 +89,11 @@ class RemarkTable:
     def settle_object(self, name: str, obj: Optional[ObjectState]) -> None:
         """Ends remarks about an object, and begins its flexible downtimes, as its state and the time have it. A later acknowledgement, or a later mute,
         replaces one before it."""
+        remarks = self.about(name)
+        if not remarks:
+            return
         now, standing = self._clock.wall(), None if obj is None else obj.standing
         state = None if standing is None or standing.state == "PENDING" else standing.state
-        remarks = self.about(name)
         newest = {each.kind: each.id for each in remarks if each.kind in ("acknowledgement", "mute")}
         for remark in remarks:
             left = remark.at(now, state) if newest.get(remark.kind, remark.id) == remark.id else remark.ended()

@@ -50,6 +50,9 @@ REMARKS = f"SELECT {', '.join(Remark._fields)} FROM remarks ORDER BY id"
 INSERTS: Dict[str, str] = {
     table: f"INSERT OR REPLACE INTO {table} VALUES ({','.join('?' * (len(members.split(',')) + 2))})" for table, members in TABLES.items()
 }
+# A row of an object keeps its number and its name, so that the index of names isn't written again.
+INSERTS["standings"] += " ON CONFLICT (id) DO UPDATE SET " + ", ".join(
+    f"{name} = excluded.{name}" for name in [member.split()[0] for member in TABLES["standings"].split(", ")][1:] + ["checksum"])
 
 
 class Generation(NamedTuple):
@@ -135,6 +138,11 @@ class StoredStanding(NamedTuple):
 def read_remarks(rows: Iterable[Sequence[Any]]) -> List[Remark]:
     found = (Remark(*row) for row in rows)
     return [each._replace(sticky=bool(each.sticky), persistent=bool(each.persistent)) for each in found]
+
+
+def plain_cells(cells: Sequence[Cell]) -> List[Cell]:
+    """The cells of a row as the database gives them back: what is true or false is a number."""
+    return [int(cell) if isinstance(cell, bool) else cell for cell in cells]
 
 
 def checksum_of(table: str, number: int, cells: Sequence[Cell]) -> str:

@@ -22,7 +22,7 @@ from ..model.protocol import GREATEST
 from ..model.remarks import Remark
 from .database_file import LARGEST_LOG, DatabaseFile, open_database
 from .rows import INSERTS, LOSSES, ONLY_STORED, REMARKS, TABLES, Cell, Generation, StoredCall, StoredChange, StoredResult, StoredStanding
-from .rows import checksum_of, read_remarks
+from .rows import checksum_of, plain_cells, read_remarks
 
 Write = Callable[["Store"], object]  # it is carried out together with others, or not at all
 MOST_REQUESTS = 1_000  # the number of stored answers to numbered requests
@@ -55,7 +55,7 @@ class Store:
                 self.last_call = max(self.greatest("calls"), self.greatest("generations", "last_call"), self.greatest("changes"))
                 self.last_result = self.greatest("passive")
                 # The number of each object's row. A new object gets the next one, so that rows that are written together can be next to each other.
-                self._row_numbers: Dict[str, int] = dict(self._read("SELECT name, id FROM standings"))
+                self.row_numbers: Dict[str, int] = dict(self._read("SELECT name, id FROM standings"))
                 self._last_row = self.greatest("standings")
             self._opened = opened.pop_all()
 
@@ -225,20 +225,19 @@ class Store:
 
     def row_number(self, name: str) -> int:
         """The number of an object's row in the table of standings, which stays the same."""
-        if name not in self._row_numbers:
+        if name not in self.row_numbers:
             self._last_row += 1
-            self._row_numbers[name] = self._last_row
-        return self._row_numbers[name]
+            self.row_numbers[name] = self._last_row
+        return self.row_numbers[name]
 
     def insert_all(self, table: str, rows: Sequence[Tuple[int, Sequence[Cell]]]) -> None:
-        """Writes rows with their checksums. What is true or false is a number, as the database gives it back."""
-        plain = ((number, [int(cell) if isinstance(cell, bool) else cell for cell in cells]) for number, cells in rows)
-        self._database.executemany(INSERTS[table], [(number, *cells, checksum_of(table, number, cells)) for number, cells in plain])
+        """Writes rows with their checksums."""
+        self._database.executemany(INSERTS[table], [(number, *cells, checksum_of(table, number, cells)) for number, cells in rows])
 
 
 def insert(table: str, number: Optional[int], *cells: Cell) -> Write:
     """A row, which replaces the one with the same number or the same unique name. Without a number it gets the next one."""
-    return lambda store: store.insert_all(table, [(store.greatest(table) + 1 if number is None else number, cells)])
+    return lambda store: store.insert_all(table, [(store.greatest(table) + 1 if number is None else number, plain_cells(cells))])
 
 
 def delete(table: str, condition: str, *cells: Cell) -> Write:
@@ -279,7 +278,7 @@ def drop_changes_before(time: float) -> Write:
 
 
 def store_standings(standings: Sequence[StoredStanding]) -> Write:
-    return lambda store: store.insert_all("standings", [(store.row_number(it.name), it) for it in standings])
+    return lambda store: store.insert_all("standings", [(store.row_number(it.name), plain_cells(it)) for it in standings])
 
 
 def store_figures(values: Mapping[str, float]) -> Write:
