@@ -34,9 +34,10 @@ class Checks:
         self._scheduling, self._passive, self._clock, self._log = scheduling, passive, clock, log
         self._objects = scheduling.states.objects
         self.operator_switches = operator
-        # The next checks that wait to be set, and the objects that were switched on.
+        # The next checks that wait to be set; the objects that were switched on, and the parts whose overdue checks aren't spread yet.
         self.planned_checks: Dict[str, Reschedule] = {}
         self._to_spread: List[str] = []
+        self._unspread: List[int] = []
         # The periods that include the minute for which they were looked at last.
         self._periods: Mapping[str, bool] = {}
         self._minute: Optional[int] = None
@@ -45,7 +46,7 @@ class Checks:
     def has_more(self, now: int) -> bool:
         """Whether something has to be planned at once. A next check that waits to be set for later isn't urgent."""
         urgent = [self._objects[name] for name, call in self.planned_checks.items() if call.time <= now and name in self._objects]
-        return bool(self._to_spread) or any(self._scheduling.is_open(obj.definition.part) for obj in urgent)
+        return bool(self._to_spread or self._unspread) or any(self._scheduling.is_open(obj.definition.part) for obj in urgent)
 
     def is_to_be_enabled(self, definition: ObjectDefinition, switch: Optional[bool] = None) -> bool:
         """Whether the active checks of an object have to be on: both the operator's switch and its period have to allow them."""
@@ -107,10 +108,15 @@ class Checks:
                 self.plan_check(obj, now, True)
 
     def plan_spread(self, is_after_pause: bool, now: int) -> None:
-        """Spreads the overdue checks after a pause, and the checks of objects that were switched on."""
-        names = self._objects if is_after_pause else [name for name in self._to_spread if name in self._objects]
+        """Spreads the overdue checks after a pause, those of one part in a turn, and the checks of objects that were switched on."""
+        if is_after_pause:
+            self._unspread = sorted(self._scheduling.parts)
+        part = self._unspread.pop(0) if self._unspread else None
+        found = {name: self._objects[name] for name in self._to_spread if name in self._objects}
+        if part is not None:
+            found.update((obj.name, obj) for obj in self._objects.values() if obj.definition.part == part)
         overdue: List[Tuple[int, str]] = []
-        for obj in (self._objects[name] for name in names if name not in self._passive):
+        for obj in (obj for name, obj in found.items() if name not in self._passive):
             due = obj.due_time()
             never = obj.next is None and obj.run is None and obj.on and obj.definition.check_interval > 0
             if never or due is not None and due < now:
@@ -135,7 +141,7 @@ class Checks:
             return
         free = self._scheduling.site.options.slots - sum(job.runner is None for job in states.running.plugins()) + plan.freed
         for part, count in sorted(counts.items()):
-            if self._scheduling.is_open(part):
+            if self._scheduling.is_open(part) and part not in self._unspread:
                 taken = max(0, min(count, free))
                 plan.calls += [(part, Take(now), None)] * taken
                 free -= taken

@@ -3,8 +3,8 @@ import collections
 import enum
 import heapq
 import zlib
-from dataclasses import dataclass, field, replace
-from typing import Any, DefaultDict, Dict, Iterable, List, Mapping, Optional, Sequence, Set, Tuple
+from dataclasses import dataclass, field
+from typing import Any, DefaultDict, Dict, Iterable, List, Mapping, NamedTuple, Optional, Sequence, Set, Tuple
 
 from .jobs import Job
 from .protocol import Abandon, Answer, Call, Done, Enable, Freed, PutOff, Report, Reschedule, Standing, Taken
@@ -17,16 +17,14 @@ FIRST_TIME = 3  # any time from this one on is a time by the clock
 ObjectKey = Tuple[int, str]  # a part and the full name of an object in it
 
 
-@dataclass(frozen=True)
-class Command:
+class Command(NamedTuple):
     """A command line, split unless a shell runs it."""
 
     arguments: Sequence[str]
     limit: float  # the limit of the plugin, in seconds
 
 
-@dataclass(frozen=True)
-class ObjectDefinition:
+class ObjectDefinition(NamedTuple):
     name: str
     part: int
     host: Optional[str]  # the host of a service; None for a host
@@ -160,7 +158,7 @@ class DueQueue:
     _due: DefaultDict[int, Set[str]] = field(default_factory=lambda: collections.defaultdict(set))
 
     def set_time(self, key: ObjectKey, time: Optional[int]) -> None:
-        if time is not None and time == self._times.get(key):
+        if time == self._times.get(key):
             return
         part, name = key
         self._due[part].discard(name)
@@ -200,26 +198,36 @@ class ObjectStates:
         self.running = RunTable()
         self.due = DueQueue()
 
-    def change_site(self, objects: Mapping[str, ObjectDefinition], now: int) -> None:
-        """Takes over another site, and keeps the state of the objects that stay. A check of an object that moves to another part is abandoned there."""
+    def change_site(self, objects: Mapping[str, ObjectDefinition], now: int) -> Dict[str, ObjectState]:
+        """Takes over another site, and keeps the state of the objects that stay. A check of an object that moves to another part is abandoned there. Returns
+        the objects that are new or have another definition."""
+        changed = {}
         before, self.due = dict(self.objects), DueQueue()
         self.objects.clear()
         for name, definition in objects.items():
-            earlier = before.pop(name, None) or ObjectState(definition, self.running, definition.enabled, awaited_since=now, known_at=now)
-            self.objects[name] = obj = self._state_in_new_site(earlier, definition, now)
+            obj = before.pop(name, None)
+            if obj is None:
+                obj = changed[name] = ObjectState(definition, self.running, definition.enabled, awaited_since=now, known_at=now)
+            elif obj.definition != definition:
+                changed[name] = obj
+                self._change_definition(obj, definition, now)
+            self.objects[name] = obj
             self.due.set_time(obj.key, obj.due_time())
         for obj in before.values():
             self.end_run(obj)
+        return changed
 
-    def _state_in_new_site(self, earlier: ObjectState, definition: ObjectDefinition, now: int) -> ObjectState:
-        if earlier.definition.part != definition.part:
-            self.end_run(earlier)
-        on = earlier.on if earlier.definition.enabled == definition.enabled else definition.enabled
-        since = now if earlier.definition.freshness is None and earlier.last_result is None else earlier.awaited_since
-        phase = earlier.phase
-        if phase is not None and earlier.definition.check_interval != definition.check_interval:
-            phase = phase_of(earlier.name, definition.check_interval)
-        return replace(earlier, definition=definition, on=on, awaited_since=since, phase=phase)
+    def _change_definition(self, obj: ObjectState, definition: ObjectDefinition, now: int) -> None:
+        before, obj.definition = obj.definition, definition
+        if before.part != definition.part:
+            self.end_run(obj)
+            obj.key = definition.part, obj.name
+        if before.enabled != definition.enabled:
+            obj.on = definition.enabled
+        if before.freshness is None and obj.last_result is None:
+            obj.awaited_since = now
+        if obj.phase is not None and before.check_interval != definition.check_interval:
+            obj.phase = phase_of(obj.name, definition.check_interval)
 
     def end_run(self, obj: ObjectState) -> None:
         """Ends an object's run. A plugin that still runs has no owner any more, and the next run of the object waits for it."""

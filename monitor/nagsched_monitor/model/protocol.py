@@ -22,12 +22,14 @@ ENCODER = json.JSONEncoder(ensure_ascii=False, separators=(",", ":"))
 
 
 def call_line(call: Call) -> str:
-    # Nearly all calls are of these two kinds, and the encoder would take most of the time for them.
+    # Nearly all calls are of these kinds, and the encoder would take most of the time for them.
     if isinstance(call, Take):
         return f'["take",{call.now}]'
     if isinstance(call, Report):
         return f'["report",{ENCODER.encode(call.name)},{call.run},{call.code}]'
-    return ENCODER.encode((WORDS[type(call)], *call))
+    if isinstance(call, Reschedule):
+        return f'["reschedule",{ENCODER.encode(call.name)},{call.time},{"true" if call.forced else "false"}]'
+    return f'["status",{ENCODER.encode(call.name)}]' if isinstance(call, Status) else ENCODER.encode((WORDS[type(call)], *call))
 
 
 def read_call(line: str) -> Call:

@@ -2,6 +2,7 @@
 import argparse
 import contextlib
 import datetime
+import gc
 import json
 import os
 import pathlib
@@ -194,6 +195,7 @@ def main(given: Optional[List[str]] = None) -> int:
             if arguments.command is not None:
                 own = {"test": test_site, "status": print_status, "remarks": print_remarks, "drop-calls": drop_calls}
                 return own.get(arguments.command, ask_monitor)(arguments)
+            gc.disable()  # what a start makes stays
             monitor = Monitor(arguments, log)
         with contextlib.closing(monitor):
             return monitor.run()

@@ -1,5 +1,6 @@
 """The parts of a monitor and its actions around a turn: it logs changes, takes over another site, and ends."""
 import argparse
+import gc
 import hashlib
 import os
 import pathlib
@@ -122,6 +123,8 @@ class Monitor:
         for obj in self.engine.objects.values():
             if obj.standing is not None and obj.standing.is_problem():
                 self.log(f"at the start {obj.name} is {obj.standing.state} {obj.standing.kind} {obj.standing.attempt}")
+        gc.freeze()  # objects of the site aren't looked over again and again
+        gc.enable()
         self._service_manager.notify(f"READY=1\nSTATUS={len(site.objects)} objects")  # `systemctl status` shows it
         return self.loop.run()
 
@@ -172,6 +175,8 @@ class Monitor:
             before = set(self.engine.objects)
             changed = self.engine.reload(site)
             self.runners.set_remotes(site.runners)
+            gc.collect()
+            gc.freeze()
             new, dropped = sorted(set(site.objects) - before), sorted(before - set(site.objects))
             for line in (*(f"new: {name}" for name in new), *(f"dropped: {name}" for name in dropped), *changed, *site.warnings):
                 self.log(line)

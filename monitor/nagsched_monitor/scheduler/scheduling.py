@@ -18,6 +18,7 @@ from .mirroring import Mirrors, PlannedCall, carry_over, merge_states
 from .schedulers import Conversation, ConversationFactory, PartScheduler
 
 LONG_REPLAY = 5_000  # the number of calls made again after which a part is saved at once
+STANDINGS_IN_TURN = 1_000  # the most standings that are written with the calls of a turn
 
 
 @dataclass
@@ -58,6 +59,7 @@ class Scheduling:
         self._standings = StandingTable(store, clock)
         self.remarks = RemarkTable(store, clock, log)
         self._new_changes: List[StoredChange] = []
+        self._changed: Mapping[str, ObjectState] = {}  # the objects that are new in the last site, or have another definition there
         self._has_unknown = False  # whether there are objects whose states aren't known yet
         # The changes that were stored before this monitor started: answers that come again are no changes.
         self._stored_changes: AbstractSet[int] = frozenset()
@@ -74,7 +76,7 @@ class Scheduling:
         for line in self._change_site(self.site):
             self._log(line)
         self._query_unknown()
-        self._standings.settle(self.states.objects)
+        self._standings.settle(self.states.objects, self.states.objects)
 
     def _start(self, generation: Generation) -> Conversation:
         return self._converse(self._program, generation.setup, generation.start, generation.saved)
@@ -107,8 +109,12 @@ class Scheduling:
 
     def _query_unknown(self) -> None:
         """Asks for the standing of each object whose standing isn't known yet, and takes its first time as its phase."""
-        for part in self.parts:
-            self._query_standings(part, [obj.name for obj in self.states.objects.values() if obj.definition.part == part])
+        unknown: Dict[int, List[str]] = {part: [] for part in self.parts}
+        for obj in self.states.objects.values():
+            if obj.standing is None:
+                unknown[obj.definition.part].append(obj.name)
+        for part, names in unknown.items():
+            self._query_standings(part, names)
         for obj in self.states.objects.values():
             if obj.phase is None and obj.next is not None and obj.next >= FIRST_TIME:
                 obj.phase = obj.next
@@ -128,7 +134,7 @@ class Scheduling:
         self._has_unknown = True
         self._query_new()
         try:
-            self._standings.settle(self.states.objects)
+            self._standings.settle(self.states.objects, self._changed)
         except NotStored as fault:
             self._log(f"since when objects are in their states isn't known: {fault}")
         return changed
@@ -147,9 +153,10 @@ class Scheduling:
         wanted = {part: (setup, site.mirrors.get(part, frozenset())) for part, setup in enumerate(site.setups)}
         others = {part for part, setup in wanted.items() if opened.get(part) != setup}
         changed = self._begin_parts(site, others) if opened != wanted else []
-        self.site = site
         self.remarks.take_over(site.remarks)
-        self.states.change_site(site.objects, self._clock.moment())
+        if site is not self.site:
+            self.site = site
+            self._changed = self.states.change_site(site.objects, self._clock.moment())
         for part in sorted(others):
             self._read_state(part, self.parts[part].generation.saved)
         for obj in self.states.objects.values():
@@ -173,9 +180,9 @@ class Scheduling:
         self._open_parts(generations, others)
         return changed
 
-    def _write(self, *writes: Write) -> None:
-        """Writes these, with all that waits to be written."""
-        self._store.write(*self._pending_writes, *self._standings.writes(), *self.remarks.writes(), *writes)
+    def _write(self, *writes: Write, standings: Optional[int] = None) -> None:
+        """Writes these, with all that waits to be written, or with this many standings of it."""
+        self._store.write(*self._pending_writes, *self._standings.writes(standings), *self.remarks.writes(), *writes)
         self._pending_writes = []
         self._standings.clear_marks()
         self.remarks.clear_marks()
@@ -201,7 +208,7 @@ class Scheduling:
             return self._store.file.test()
         first = self._store.last_call + 1
         calls = [StoredCall(number, part, call_line(call), words, call) for number, (part, call, words) in enumerate(planned, first)]
-        self._write(*writes, store_calls([stored[1:4] for stored in calls]))
+        self._write(*writes, store_calls([stored[1:4] for stored in calls]), standings=STANDINGS_IN_TURN)
         for stored in calls:
             self.parts[stored.part].pending.append(stored)
 

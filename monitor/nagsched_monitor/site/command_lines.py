@@ -45,8 +45,10 @@ def read_commands(folder: pathlib.Path, objects: Container[str], runner_of: Cont
 
 
 def plain_arguments(line: str, place: str) -> List[str]:
-    with raising(SiteFault, f"{place}: its line can't be split into words", ValueError):
-        arguments, signs = (line.split(), []) if PLAIN.fullmatch(line) else (shlex.split(line), shell_characters(line))
+    arguments, signs = line.split(), []
+    if not PLAIN.fullmatch(line):
+        with raising(SiteFault, f"{place}: its line can't be split into words", ValueError):
+            arguments, signs = shlex.split(line), shell_characters(line)
     require(arguments, f"{place}: its line is empty")
     if signs:
         raise SiteFault(f'{place}: only a shell gives {signs[0]} a meaning: add "shell": true, or put it in quotes')

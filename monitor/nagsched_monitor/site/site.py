@@ -5,7 +5,7 @@ import json
 import pathlib
 import subprocess
 import zoneinfo
-from dataclasses import dataclass, replace
+from dataclasses import dataclass
 from typing import AbstractSet, Any, Container, Dict, List, Mapping, Optional, Sequence, Tuple
 
 from ..faults import SiteFault, raising, require, trouble_text
@@ -90,7 +90,7 @@ def read_site(folder: pathlib.Path, program: str) -> Site:
             children.setdefault(parent, []).append(name)
         only, freshness = passive.get(name, (False, None))
         command, period, runner = commands.get(name), period_of.get(name), runner_of.get(name)
-        objects[name] = replace(definition, command=command, period=period, runner=runner, passive_only=only, freshness=freshness)
+        objects[name] = definition._replace(command=command, period=period, runner=runner, passive_only=only, freshness=freshness)
         test_command(objects[name])
     with_freshness = [name for name, definition in objects.items() if definition.freshness is not None]
     return Site(setups, objects, Periods(periods, options.zone), options, children, with_freshness, mirrors, runners,

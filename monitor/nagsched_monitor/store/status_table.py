@@ -31,9 +31,10 @@ class StandingTable:
                 obj = objects[row.name]
                 obj.output, obj.phase, obj.history, obj.known_at = row.words, row.phase, history_of(row), row.known or 0
 
-    def settle(self, objects: Mapping[str, ObjectState]) -> None:
-        """Has all objects whose states are known written. If the table had another state, the stored changes show when the new one began."""
-        self._dropped = [row.name for row in self._store.standings() if row.name not in objects]
+    def settle(self, objects: Mapping[str, ObjectState], changed: Mapping[str, ObjectState]) -> None:
+        """Takes over the objects of a site, and has those written that changed with it. If the table had another state of an object, the stored changes show
+        when the new one began."""
+        self._dropped = [name for name in self._store.row_numbers if name not in objects]
         for obj in objects.values():
             standing, past = obj.standing, obj.history
             if standing is None or is_settled(standing, past):
@@ -42,8 +43,8 @@ class StandingTable:
             past.note(standing.state, standing.kind, stored.since if stored.since and stored.state == standing.state else self._clock.wall())
             if stored.hard_since is not None and stored.hard_state == past.hard_state:
                 past.hard_since = stored.hard_since
-        self._marked = {}
-        self.write_soon(objects)
+        self._marked = {name: marked for name, marked in self._marked.items() if name in objects and marked[0].standing is not None}
+        self.write_soon(changed)
 
     def apply_answer(self, obj: ObjectState, call: Call, answer: Answer, ended: Optional[Run]) -> None:
         """Takes in the changes of an object from an answer, and marks the object. `ended` is its run before."""
@@ -68,9 +69,10 @@ class StandingTable:
         _, earliest = next(iter(self._marked.values()), (None, now))
         return now - earliest > LONGEST
 
-    def writes(self) -> List[Write]:
+    def writes(self, most: Optional[int] = None) -> List[Write]:
+        """The rows that are due, or this many of them: the others are due with the next calls."""
         now, wall = self._clock.moment(), self._clock.wall()
-        due = itertools.takewhile(lambda marked: now - marked[1] >= SHORTEST, self._marked.values())
+        due = itertools.islice(itertools.takewhile(lambda marked: now - marked[1] >= SHORTEST, self._marked.values()), most)
         self._chosen = [obj for obj, since in due if now - since >= LONGEST or not has_just_begun(obj.run, wall)]
         gone = [delete("standings", "name = ?", name) for name in self._dropped]
         return [*gone, store_standings([row_of(obj, wall, now / 1000 - wall) for obj in self._chosen])]
