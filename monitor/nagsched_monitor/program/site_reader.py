@@ -1,6 +1,7 @@
 """A site that a separate process reads and tests, while the monitor works.
 
 The process writes the site to its standard output as a Python `pickle`, or why it is refused."""
+import gc
 import os
 import pathlib
 import pickle
@@ -38,6 +39,7 @@ def read_apart(folder: pathlib.Path, program: str) -> Generator[bool, None, Site
 
 def main() -> int:
     folder, program = sys.argv[1:]
+    gc.disable()  # what it makes stays until its end
     try:
         result: Union[Site, str] = read_site(pathlib.Path(folder), program)
     except MonitorFault as fault:

@@ -2,9 +2,11 @@
 
 `docs/monitor.md` has its files, and the members of each."""
 import json
+import os
 import pathlib
 import subprocess
 import zoneinfo
+from concurrent.futures import ThreadPoolExecutor
 from dataclasses import dataclass
 from typing import AbstractSet, Any, Container, Dict, List, Mapping, Optional, Sequence, Tuple
 
@@ -72,7 +74,8 @@ def read_site(folder: pathlib.Path, program: str) -> Site:
     """The site of a folder. Raises a `SiteFault` that names the file and the error."""
     with lock_for_reading(folder):
         paths = setup_files(folder)
-        setups = [setup_line(path, program) for path in paths]
+        with ThreadPoolExecutor(os.cpu_count()) as several:
+            setups = list(several.map(lambda path: setup_line(path, program), paths))
         documents = {path.stem: json.loads(setup) for path, setup in zip(paths, setups)}
         mirrors = read_mirrors(folder, documents)
         objects = originals_of(documents, mirrors)
