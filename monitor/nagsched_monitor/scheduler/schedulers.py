@@ -131,6 +131,14 @@ class PartScheduler:
         self._alone_until = self._suspect = self._end_count = 0
         self.replayed = 0  # the number of calls that were made again when it was started last
 
+    def open(self) -> None:
+        """Starts the scheduler for the first time, and waits until it has read its setup and its state. If it can't, the first question starts it again."""
+        try:
+            self.conversation = self._start(self.generation)
+            self.conversation.ask_lines([PING])
+        except ConversationEnded:
+            self.close_conversation()
+
     def begin(self) -> None:
         """Sends pending calls, if the scheduler runs and may get several of them together."""
         if self.conversation is not None and self.pending[0].id > self._alone_until:

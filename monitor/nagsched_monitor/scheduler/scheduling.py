@@ -1,5 +1,7 @@
 """The schedulers of a site and their answers: calls are first stored together, then made together, and then their answers are applied."""
 import json
+import os
+from concurrent.futures import ThreadPoolExecutor
 from dataclasses import dataclass, field
 from typing import AbstractSet, Callable, Dict, List, Mapping, NamedTuple, Optional, Sequence, Set
 
@@ -72,6 +74,8 @@ class Scheduling:
         self.mirrors = Mirrors({part: generation.mirrors for part, generation in generations.items()}, self.states.running)
         self._stored_changes = self._store.changes_after(min((generation.last_call for generation in generations.values()), default=0))
         self._open_parts(generations, generations.keys())
+        with ThreadPoolExecutor(os.cpu_count()) as several:
+            list(several.map(PartScheduler.open, self.parts.values()))
         self._resume()
         for line in self._change_site(self.site):
             self._log(line)
