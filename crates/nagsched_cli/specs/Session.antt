@@ -39,6 +39,10 @@ abbrev pub IsSchemaOutput : Result Outcome DriveError → Option (List ℕ) → 
 IsSchemaOutput (Err errors.Memory) held holds = holds ≡ held
 IsSchemaOutput ended held holds = (schema : List ℕ) × NamesAll document_members schema × IsJobTextOutput schema ended held holds
 
+-- the effects of writing a schema: nothing was read
+abbrev pub SchemaEnded : Result Outcome DriveError → Streams → Type 0
+SchemaEnded ended io = (io.left ≡ io.had) × IsSchemaOutput ended io.held io.holds
+
 -- The effects of a run in this form, and what it noted: the note on its input, unless an error ended it.
 abbrev pub RunNoted : AnswerForm → Start → Result Outcome DriveError → Streams → List ℕ → Type 0
 RunNoted forms.Json how ended io noted = (run : JsonRunEnded how ended io) × OnOk ended (noted ≡ json_run_note how run.input)
@@ -55,7 +59,7 @@ JobEnded (job.Live how form) ended io noted = ConversationEnded form how ended i
 JobEnded (job.Check how) ended io noted = CheckEnded (IsReportFrom how) (check_input_of how) ended io × IsSilent ended noted
 JobEnded job.SetupLine ended io noted = CheckEnded IsSetupLineReport document_input_of ended io × IsSilent ended noted
 JobEnded (job.Drill start workers room) ended io noted = DrillEnded start workers room ended io × IsSilent ended noted
-JobEnded job.Schema ended io noted = (io.left ≡ io.had) × IsSchemaOutput ended io.held io.holds × IsSilent ended noted
+JobEnded job.Schema ended io noted = SchemaEnded ended io × IsSilent ended noted
 
 -- arguments in which `clap` finds no fault, and which ask for this job
 abbrev pub Asks : List Text → Job → Type 0
