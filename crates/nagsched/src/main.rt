@@ -14,17 +14,20 @@ mod device;
 mod sessions;
 
 use crate::device::Device;
+use nagsched_cli::arguments::Job;
 use nagsched_cli::devices::{Stream, explain_device};
 use nagsched_cli::explanation::explain_arguments;
+use nagsched_cli::job::job;
 use nagsched_cli::session::{Ending, exit_status, refuse_words, session};
 use nagsched_protocol::DriveError;
 use std::alloc::{AllocError, Global};
+use std::fs::Files;
 use std::io::{BufWriter, ErrorKind, Write};
 use std::process::ExitCode;
 use std::rt::Env;
 use std::sync::Wait;
 use std::thread::Threads;
-use std::{env, io};
+use std::{env, fs, io};
 
 fn main(rt: HostRuntime) -> ExitCode {
     ExitCode::from(run_program(&rt))
@@ -34,7 +37,7 @@ fn main(rt: HostRuntime) -> ExitCode {
 /// gathered, and flushed once at the end. `live` also flushes before it reads again. Arguments that aren't
 /// text are refused. Standard error says in one sentence why arguments or the input of `run` are refused,
 /// and which stream failed.
-fn run_program<R: Env + Input + Print + Eprint + AllocGlobal + Threads + Wait + Sync>(
+fn run_program<R: Env + Files + Input + Print + Eprint + AllocGlobal + Threads + Wait + Sync>(
     rt: &R,
 ) -> u8 {
     let alloc = rt.alloc();
@@ -62,12 +65,18 @@ fn run_program<R: Env + Input + Print + Eprint + AllocGlobal + Threads + Wait + 
 }
 
 /// The session for these arguments, from standard input to this output.
-fn run_session<R: Input + Eprint + Threads + Wait + Sync, W: Write>(
+fn run_session<R: Files + Input + Eprint + AllocGlobal + Threads + Wait + Sync, W: Write>(
     rt: &R,
     alloc: Global,
     words: &[&str],
     output: &mut Device<W>,
 ) -> u8 {
+    if reads_input(alloc, words) && is_terminal(rt) {
+        say(
+            rt,
+            "it waits for a setup; Ctrl-D ends the input; try: nagsched --help",
+        );
+    }
     let mut input = Device::new(rt.reader());
     let mut note = String::new(alloc);
     let ended = session(rt, alloc, words, &mut input, output, &mut note);
@@ -85,6 +94,24 @@ fn run_session<R: Input + Eprint + Threads + Wait + Sync, W: Write>(
         _ => {}
     }
     exit_status(ended)
+}
+
+/// Whether these arguments ask for a job that reads an input.
+fn reads_input(alloc: Global, words: &[&str]) -> bool {
+    match job(alloc, words) {
+        Ok(Job::Schema) | Err(_) => false,
+        Ok(_) => true,
+    }
+}
+
+/// Whether standard input is a terminal, by the name that Linux gives it.
+fn is_terminal<R: Files + AllocGlobal>(rt: &R) -> bool {
+    match fs::read_link(rt, "/proc/self/fd/0") {
+        Ok(name) => {
+            name.as_str().starts_with("/dev/pts/") || name.as_str().starts_with("/dev/tty")
+        }
+        Err(_) => false,
+    }
 }
 
 /// Says on standard error why the arguments are refused. If it can't be written, nothing is said.
