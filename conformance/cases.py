@@ -47,8 +47,8 @@ def wrong_rules() -> list[tuple[str, str]]:
 
 
 def runs() -> Iterator[Case]:
-    """The cases that `run` accepts, except its help. Their arguments begin with `run`."""
+    """The cases that `run` accepts and answers in words. Their arguments begin with `run`."""
     for case in cases():
         arguments = case.arguments or ["run"]
-        if case.status == 0 and arguments[0] == "run" and "--help" not in arguments:
+        if case.status == 0 and arguments[0] == "run" and not {"--help", "--json"} & set(arguments):
             yield case._replace(arguments=arguments)
