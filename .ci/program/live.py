@@ -3,12 +3,14 @@
 
     .ci/program/live.py PROGRAM
 
-`live` answers each case of conformance/ that `run` accepts in the same way. A line is sent and its answer read, again and again. 200,000 lines
-are sent at once, while a thread reads. Setups come byte by byte, and with the most bytes that are allowed. A saved state is refused as soon as
-its fault shows, while its input continues. The reader of the answers goes away, or the device is full, which ends in status 3. A conversation's
-memory doesn't grow with the number of its lines. A line of 70 MB is answered in 64 MB, and memory after a million lines is that after a thousand.
+`live` answers each case of conformance/ that `run` accepts in the same way, and with --json each answer says what that in words says. A line is sent and
+its answer read, again and again. 200,000 lines are sent at once, while a thread reads. Setups come byte by byte, and with the most bytes that are allowed.
+A saved state is refused as soon as its fault shows, while its input continues. The reader of the answers goes away, or the device is full, which ends in
+status 3. A conversation's memory doesn't grow with the number of its lines, in any form of answers. A line of 70 MB is answered in 64 MB, and memory after
+a million lines is that after a thousand.
 """
 import fcntl
+import json
 import pathlib
 import re
 import resource
@@ -30,12 +32,64 @@ DOCUMENT = 16_777_216
 LONG_LINE = 70_000_000
 MEGABYTE = 1 << 20
 ADDRESSES = 64 * MEGABYTE
+FLAGS = {"changed": ("no", "yes"), "flapping": ("STEADY", "FLAPPING")}
+ID, NO_VALUE = b'["take",0,{"id":7}]\n', b'["take"]\n'
+
+
+def json_answer(number):
+    """The answer to the take with an id on this line, as JSON."""
+    return b'{"line":%d,"id":7,"answer":%s}\n' % (number, b'"idle","next_check":null' if number > 2 else b'"taken","run":1,"name":"gateway"')
+
+
+def explained_answer(number):
+    """The answer to a take without a value on this line, and its explanation."""
+    return b'refused S3 Shape %d\nexplained line %d: the number of values of "take" is 0; it has to be 1\n' % (number, number)
+
+
+# The forms of answers: the option, the number of lines, the line that is sent again and again, and the answer to it by the number of its line.
+FORMS = {
+    "words": ((), 1_000_000, TAKE, lambda number: IDLE if number > 2 else TAKEN),
+    "JSON": (("--json",), 200_000, ID, json_answer),
+    "explanations": (("--explain",), 200_000, NO_VALUE, explained_answer),
+}
 
 
 def compare_cases(harness):
     """`live` writes what `run` writes, on each case."""
     for case in runs():
         harness.compare(case.name, (case.wanted, 0), harness.run(["live", *case.arguments[1:]], case.given))
+
+
+def field_in_words(name, value):
+    """A field of an answer in JSON, as `run` writes it."""
+    if isinstance(value, bool):
+        return FLAGS[name][value]
+    return "none" if value is None else str(value)
+
+
+def answer_in_words(answer):
+    """The lines of `run` that say the same as an answer in JSON."""
+    fields = [field_in_words(name, value) for name, value in answer.items() if name not in ("line", "answer", "objects", "saved")]
+    kind = answer["answer"]
+    if kind == "listed":
+        objects = [" ".join(["object", *(field_in_words(*field) for field in each.items())]) for each in answer["objects"]]
+        return [f"listed {len(objects)}", *objects]
+    if kind == "saved":
+        fields = [json.dumps(answer["saved"], ensure_ascii=False, separators=(",", ":"))]
+    return [" ".join([kind, *fields])]
+
+
+def compare_json(harness):
+    """`run` and `live` write the same JSON on each case. It says what the case's words say, and the numbers of the lines that aren't blank."""
+    for case in runs():
+        ran = harness.run(["run", "--json", *case.arguments[1:]], case.given)
+        harness.compare(f"{case.name}: live --json", ran, harness.run(["live", "--json", *case.arguments[1:]], case.given))
+        answers = [json.loads(line) for line in ran[0].splitlines()]
+        words = "".join(f"{line}\n" for answer in answers for line in answer_in_words(answer))
+        harness.compare(f"{case.name}: --json", (case.wanted.decode(), 0), (words, ran[1]))
+        first = 2 if "--resume" in case.arguments else 1
+        lines = [n for n, line in enumerate(case.given.split(b"\n"), 1) if n > first and line.strip(b" \t\r")]
+        harness.compare(f"{case.name}: numbers of lines", lines, [answer["line"] for answer in answers])
 
 
 def start_live(program, *words, **how):
@@ -185,18 +239,19 @@ def are_answered(live, lines, wanted):
     return came == wanted
 
 
-def million_lines(program):
-    """The memory after a million lines is the same as after a thousand."""
-    with start_live(program) as live:
+def many_lines(program, form):
+    """The fault of a conversation of many lines: an answer is wrong, or memory at its end is more than after a thousand lines."""
+    words, count, line, answer = FORMS[form]
+    with start_live(program, *words) as live:
         send_all(live, SETUP)
-        came = are_answered(live, TAKE * 1_000, TAKEN + IDLE * 999)
+        came = are_answered(live, line * 1_000, b"".join(map(answer, range(2, 1_002))))
         before = peak_memory(live)
-        came = came and are_answered(live, TAKE * 999_000, IDLE * 999_000)
+        came = came and are_answered(live, line * (count - 1_000), b"".join(map(answer, range(1_002, count + 2))))
         grown = peak_memory(live) - before
         live.stdin.close()
         if not came or live.wait(SECONDS):
-            return "a million lines are answered otherwise"
-        return None if grown < MEGABYTE else f"a million lines leave {grown} bytes more"
+            return f"{count} lines are answered otherwise"
+        return None if grown < MEGABYTE else f"{count} lines leave {grown} bytes more"
 
 
 def closed_reader(program):
@@ -231,9 +286,12 @@ def full_device(program):
 def main():
     harness = Harness("live")
     compare_cases(harness)
+    compare_json(harness)
+    for form in FORMS:
+        harness.compare(f"memory of a conversation in {form}", None, many_lines(harness.program, form))
     for count in (70_000, 200_000):
         harness.compare("all lines at once", None, all_at_once(harness.program, count))
-    for part in (line_by_line, byte_by_byte, long_setup, refused_state, long_line, million_lines, closed_reader, full_device):
+    for part in (line_by_line, byte_by_byte, long_setup, refused_state, long_line, closed_reader, full_device):
         harness.compare(part.__doc__, None, part(harness.program))
     harness.end()
 

@@ -4,9 +4,11 @@
     .ci/program/session.py [PROGRAM]     crates/nagsched/out/nagsched if no program is named
 
 Arguments that are no text, help, the version, an unreadable input, an output whose reader has gone away, and a full device. The sentences on standard
-error about them. The number of bytes read of a long document, the number of writes, and an input from a terminal. A folder serves as an unreadable
-input: a job that reads it ends in status 3. A job that doesn't read it never notices: arguments that ask for help or the version, or that are refused.
+error about them, and about the input of a run. The number of bytes read of a long document, the number of writes, and an input from a terminal. A
+folder serves as an unreadable input: a job that reads it ends in status 3. A job that doesn't read it never notices: arguments that ask for help or the
+version, or that are refused.
 """
+import json
 import os
 import pty
 import random
@@ -21,7 +23,7 @@ from cases import cases
 
 TAKE = b'["take",0]\n'
 SAVE = b'["save"]\n'
-DOCUMENT = 16_777_216
+DOCUMENT, WHOLE_INPUT = 16_777_216, 67_108_864
 SECONDS = 20
 
 # The arguments that ask for each help text, which is that of its case in conformance/words.
@@ -44,7 +46,8 @@ NO_JOB = (["walk"], ["check", "--resume", "--line"], ["drill", "--resume"], ["sc
 NO_TEXT = ([b"\xff"], [b"run", b"--start", b"\xff"], [b"drill", b"--workers", b"1", b"\xc3"], [b"--help", b"\xed\xa0\x80"])
 
 # Refused arguments, and what explains them on standard error.
-RUN, CHECK = "run takes only the options --start N, --resume and --help", "check takes only the options --start N, --line, --resume and --help"
+RUN, CHECK = "run takes only the options --start N, --resume, --json and --help", "check takes only the options --start N, --line, --resume and --help"
+LIVE = "the options --start N, --resume, --json, --explain and --help"
 DRILL = "the options --start N, --workers N, --room N and --help"
 COMMANDS = "the command must be run, live, check, drill, schema or help, not "
 STARTS, WORKERS, ROOM = (f"a whole number from {least} to {most}" for least, most in ((0, 2**60), (1, 64), (0, 1_000_000)))
@@ -61,11 +64,16 @@ EXPLAINED = {
     "--strat 7": '"--strat" isn\'t an option of nagsched, which takes a command or the options --help and --version',
     "--hepl": '"--hepl" isn\'t an option of nagsched, which takes a command or the options --help and --version (did you mean --help?)',
     "-v": '"-v" isn\'t an option of nagsched, which takes a command or the options --help and --version',
-    "live --strat=5": '"--strat=5" isn\'t an option of live, which takes the options --start N, --resume and --help (did you mean --start?)',
+    "live --strat=5": f'"--strat=5" isn\'t an option of live, which takes {LIVE} (did you mean --start?)',
     "drill --wrokers 1": f'"--wrokers" isn\'t an option of drill, which takes {DRILL} (did you mean --workers?)',
     "drill --foo": f'"--foo" isn\'t an option of drill, which takes {DRILL} (did you mean --room?)',
     "schema -x": '"-x" isn\'t an option of schema, which takes the option --help',
     "--resume": '"--resume" is an option of run, live and check, not of nagsched',
+    "check --json": '"--json" is an option of run and live, not of check',
+    "run --explain": '"--explain" is an option of live, not of run',
+    "live --explian": f'"--explian" isn\'t an option of live, which takes {LIVE} (did you mean --explain?)',
+    "run --json --json": "--json must be given only once",
+    "live --explain=1": '--explain takes no value, so it can\'t be given as "--explain=1"',
     "run --workers 2": '"--workers" is an option of drill, not of run',
     "live --line": '"--line" is an option of check, not of live',
     "schema --start=5": '"--start=5" is an option of run, live, check and drill, not of schema',
@@ -234,8 +242,42 @@ def explained_words(harness):
         harness.compare(arguments, (REFUSED_WORDS, 2), run_without_input(harness, arguments))
     for arguments in NO_TEXT:
         harness.compare(arguments, (refusal("the arguments must be UTF-8 text"), 2), error_text(harness, arguments))
-    for arguments in ([], ["run"], ["live", "--start=7"], ["--help"], ["--version"], ["help", "drill"], ["schema"]):
+    for arguments in (["live", "--start=7"], ["--help"], ["--version"], ["help", "drill"], ["schema"]):
         harness.compare(f"{arguments}: nothing to explain", b"", error_text(harness, arguments)[0])
+
+
+def streams_of(harness, arguments, given):
+    """What the program writes on standard output and on standard error, and its exit status."""
+    ran = subprocess.run([harness.program, *arguments], input=given, capture_output=True, timeout=SECONDS)
+    return ran.stdout, ran.stderr, ran.returncode
+
+
+def explained_runs(harness):
+    """A run says on standard error why its input is refused, and writes its refusal on standard output as ever. Nothing else is said there."""
+    saved = saved_state(harness)
+    for what, words, given, line, sentence in [
+        ("a refused setup", [], b"{}}\n", "L1 NotJson", 'line 1: the setup is refused; give this line to "nagsched check" to see why'),
+        ("no input", [], b"", "L1 NotJson", 'line 1: the setup is refused; give this line to "nagsched check" to see why'),
+        ("a refused saved state", ["--resume"], SERVICE + b"[]\n", "K4 Shape",
+         'line 2: the saved state is refused; give lines 1 and 2 to "nagsched check --resume" to see why'),
+        ("a refused line", [], SERVICE + TAKE + b'\n["take",0.5]\n[]\n', "S3 Shape 4",
+         'line 4: value 1 of "take" is 0.5; it has to be a whole number of milliseconds from 0 to 2^60'),
+        ("a line after a saved state", ["--resume"], SERVICE + saved + b'["status","s"]\n', "S5 UnknownName 3",
+         'line 3: value 1 of "status" is "s"; it has to be the full name of a host or a service of the setup'),
+        ("a control character", [], SERVICE + b'["\\u001b[0m"]\n', "S3 Shape 2", 'line 2: the name of the command is "\\u001b[0m"; it has to be "take", '
+         '"report", "abandon", "reschedule", "enable", "status", "save" or "list"'),
+        ("a line that is too long", [], SERVICE + b"x" * 4_097, "S1 TooLong 2", "line 2 has more than 4096 bytes"),
+        ("an input that is too long", [], SERVICE + b"\n" * WHOLE_INPUT, "S1 TooLong 0", "the input has more than 67108864 bytes"),
+    ]:
+        wanted = f"refused {line}\n".encode(), f"nagsched: {sentence}\n".encode(), 1
+        harness.compare(f"run: {what}", wanted, streams_of(harness, ["run", *words], given))
+        text, said, status = streams_of(harness, ["run", "--json", *words], given)
+        members = json.loads(text)
+        harness.compare(f"run --json: {what}", (line.split(" ")[:2], sentence, *wanted[1:]),
+                        ([members["code"], members["reason"]], members["explanation"], said, status))
+    silent = [(["live"], SERVICE + b"[]\n", 0), (["live"], b"{}}\n", 1), (["live", "--json"], b"{}}\n", 1), (["check"], b"{}}\n", 1), (["drill"], b"{}}\n", 1)]
+    for arguments, given, status in [*((arguments, SERVICE + TAKE, 0) for arguments in ([], ["run"], ["run", "--json"])), *silent]:
+        harness.compare(f"{arguments}: nothing on standard error", (b"", status), streams_of(harness, arguments, given)[1:])
 
 
 def explained_cases(harness):
@@ -272,11 +314,12 @@ def explained_devices(harness):
 def faults(harness):
     """An input that can't be read, and an output that can't be written, have status 3, for any output."""
     resumed = ["run", "--resume"], ["live", "--resume"], ["check", "--resume"]
-    for arguments in ([], ["run", "--start", "7"], ["live"], ["check"], ["check", "--line"], ["drill", "--workers", "1"], *resumed):
+    answered = [], ["run", "--start", "7"], ["run", "--json"], ["live"], ["live", "--json"]
+    for arguments in (*answered, ["check"], ["check", "--line"], ["drill", "--workers", "1"], *resumed):
         harness.compare(f"{arguments}: no input", (b"", 3), run_without_input(harness, arguments))
     office, drill = ((EXAMPLES / name).read_bytes() for name in ("office.txt", "drill.txt"))
     torn = [([], office), ([], b""), (["drill", "--workers", "1"], drill), (["drill", "--workers", "3"], drill)]
-    torn += [(["live"], SERVICE + TAKE), (["live"], b"{}}")]
+    torn += [(arguments, given) for arguments in (["live"], ["live", "--json"], ["live", "--explain"], ["run", "--json"]) for given in (SERVICE + TAKE, b"{}}")]
     torn += [(arguments, given) for arguments in (["check"], ["check", "--line"]) for given in (SERVICE, b"{}}")]
     torn += [(arguments, given) for arguments in resumed for given in (b"{}\n{}\n", b"{}}")]
     torn += [(arguments, SERVICE + saved_state(harness) + TAKE) for arguments in resumed]
@@ -329,7 +372,7 @@ def inputs(harness):
     """An input of each job that reads one."""
     calls = TAKE + SAVE + TAKE
     resumed = SERVICE + saved_state(harness) + calls
-    yield from (([word], SERVICE + calls) for word in ("run", "live"))
+    yield from ((arguments, SERVICE + calls) for arguments in (["run"], ["run", "--json"], ["live"], ["live", "--json"], ["live", "--explain"]))
     yield from (([word, "--resume"], resumed) for word in ("run", "live", "check"))
     yield from ((arguments, SERVICE) for arguments in (["check"], ["check", "--line"]))
     yield ["drill", "--workers", "1"], SERVICE + b'["plugin","h;s",0]\n["moment",0]\n'
@@ -350,7 +393,7 @@ def terminals(harness):
 
 
 harness = Harness("session")
-EXPLANATIONS = explained_words, explained_cases, explained_devices
+EXPLANATIONS = explained_words, explained_runs, explained_cases, explained_devices
 for part in (helps, versions, schema, refused_words, *EXPLANATIONS, faults, faults_of_conversations, three_workers, long_documents, writes, terminals):
     part(harness)
 harness.end()
