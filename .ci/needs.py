@@ -36,6 +36,7 @@ PROGRAMS = {
     "objcopy": Program("binutils", "test", "the C library"),
     "nm": Program("binutils", "test", "the names in the C library"),
     "pkg-config": Program("pkg-config", "test", "the installed C library"),
+    "node": Program("nodejs", "", "examples/client.mjs"),
     "mypy": Program("mypy", "", "the types of the Python files"),
     "mandoc": Program("mandoc", "", "what mandoc says of the manual pages"),
     "groff": Program("groff", "", "what groff says of the manual pages"),
