@@ -32,9 +32,9 @@ SUMMARY = {
 PARTS: Dict[Tuple[str, int], Dict[str, Union[str, pathlib.Path, List[Tuple[str, str]]]]] = {
     ("nagsched", 1): {
         "Synopsis": [("program", "Synopsis")],
-        "Description": [("program", ""), ("program", "Input"), ("program", "Answers"), ("program", "run"), ("program", "live"), ("program", "check"), ("program", "drill")],
+        "Description": [("program", ""), ("program", "Input"), ("program", "Answers"), ("program", "JSON"), ("program", "run"), ("program", "live"), ("program", "check"), ("program", "drill")],
         "Options": [("program", "Options")],
-        "Files": "nagsched opens no files. It reads standard input, and writes standard output.",
+        "Files": "nagsched opens no files. It reads standard input, writes standard output, and explains failures on standard error.",
         "Exit status": [("program", "Exit statuses")],
         "Examples": [("program", "Examples")],
     },

@@ -86,6 +86,8 @@ def printed_refusals(text):
     for given, line in re.findall(r"`([\[{][^`]*)`: `([^`]*)`", text):
         if line.startswith("refused "):
             compare(f"a refusal: {given}", line + "\n", program_output([given] if given.startswith("{") else [HOST, given]))
+        elif given.startswith("["):
+            compare(f"an explained line: {given}", f"explained {line}\n", program_output([HOST, given], "live", "--explain").partition("\n")[2])
         else:
             compare(f"an explanation: {given}", line + "\n", program_output([given], "check").partition("\n")[2])
 
