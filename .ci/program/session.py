@@ -173,18 +173,19 @@ def output_pieces(harness, arguments, given):
 
 
 def run_at_terminal(harness, arguments, given):
-    """The program's output when these lines are typed at a terminal, followed by one Ctrl-D, and its status."""
+    """The program's output when these lines are typed at a terminal, followed by one Ctrl-D, its status, and what it says on standard error."""
     keyboard, terminal = pty.openpty()
     modes = termios.tcgetattr(terminal)
     modes[3] &= ~termios.ECHO
     termios.tcsetattr(terminal, termios.TCSANOW, modes)
-    with subprocess.Popen([harness.program, *arguments], stdin=terminal, stdout=subprocess.PIPE) as ran:
+    with subprocess.Popen([harness.program, *arguments], stdin=terminal, stdout=subprocess.PIPE, stderr=subprocess.PIPE) as ran:
         try:
             os.write(keyboard, given + b"\x04")
-            return ran.communicate(timeout=SECONDS)[0], ran.returncode
+            written, said = ran.communicate(timeout=SECONDS)
+            return written, ran.returncode, said
         except subprocess.TimeoutExpired:
             ran.kill()
-            return f"not ended after {SECONDS} seconds", None
+            return f"not ended after {SECONDS} seconds", None, b""
         finally:
             os.close(keyboard)
             os.close(terminal)
@@ -387,9 +388,14 @@ def writes(harness):
 
 
 def terminals(harness):
-    """The end of an input is read once: at a terminal Ctrl-D once ends it."""
+    """The end of an input is read once: at a terminal Ctrl-D once ends it. There the program first says what it waits for."""
+    waits = b"nagsched: it waits for a setup; Ctrl-D ends the input; try: nagsched --help\n"
     for arguments, given in inputs(harness):
-        harness.compare(f"{arguments}: from a terminal", harness.run(arguments, given), run_at_terminal(harness, arguments, given))
+        *written, said = run_at_terminal(harness, arguments, given)
+        harness.compare(f"{arguments}: from a terminal", harness.run(arguments, given), tuple(written))
+        harness.compare(f"{arguments}: what it waits for", waits, said[:len(waits)])
+    for arguments in (["schema"], ["--help"], ["walk"]):
+        harness.compare(f"{arguments}: it waits for nothing", False, run_at_terminal(harness, arguments, b"")[2].startswith(waits))
 
 
 harness = Harness("session")
