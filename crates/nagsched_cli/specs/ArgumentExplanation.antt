@@ -1,5 +1,5 @@
 -- The explanation of arguments that are refused.
-use Rattle.std.specs.Prelude.{ℕ, ◌≡◌, List, [], ◌++◌, Option, Some, None, codes, decimal, slice_get, unwrap_or}
+use Rattle.std.specs.Prelude.{◌≡◌, List, [], ◌++◌, Option, Some, None, codes, decimal, slice_get, unwrap_or}
 use Rattle.json.specs.Print.{quoted}
 use Rattle.clap.specs.Words.{Text}
 use Rattle.nagsched_cli.specs.ArgumentFaults.{IsFirstFault, arguments_of, name_part, topic_of, value_part}

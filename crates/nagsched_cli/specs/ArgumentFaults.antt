@@ -1,5 +1,5 @@
 -- The first argument that is wrong, and what is wrong with it.
-use Rattle.std.specs.Prelude.{ℕ, ◌≡◌, ◌+◌, ◌-◌, ◌<◌, ◌==◌, ◌&&◌, Bool, true, false, not, List, [], ◌∷◌, if◌then◌else◌, nat_lt, length, take, drop}
+use Rattle.std.specs.Prelude.{ℕ, ◌≡◌, ◌-◌, ◌<◌, ◌==◌, ◌&&◌, Bool, true, false, List, if◌then◌else◌, nat_lt, length, take, drop}
 use Rattle.std.specs.Prelude.{Option, Some, None, codes, is_some, slice_get, slice_index, unwrap_or, option_and_then}
 use Rattle.std.specs.List.{before_first, after_first, position_or_len, list_any}
 use Rattle.std.specs.Option.{option_map_or}

@@ -1,5 +1,5 @@
 -- The names of the program's commands and of their options.
-use Rattle.std.specs.Prelude.{ℕ, ◌^◌, Bool, List, [], ◌∷◌, ◌++◌, ◌||◌, Option, Some, None, codes, map, unwrap_or, if◌then◌else◌}
+use Rattle.std.specs.Prelude.{◌^◌, Bool, List, [], ◌∷◌, ◌++◌, ◌||◌, Option, Some, None, codes, map, unwrap_or, if◌then◌else◌}
 use Rattle.std.specs.List.{list_any}
 use Rattle.std.specs.Str.{bytes_eq}
 use Rattle.clap.specs.Words.{App, Shape, Text}

@@ -1,4 +1,4 @@
-use Rattle.std.proofs.Common.{◌≡◌, ℕ, List, Option, Some, None, Result, Ok, Err, subst, sym}
+use Rattle.std.proofs.Common.{◌≡◌, ℕ, List, Option, Result, Ok, Err, subst, sym}
 use Rattle.setup_model.specs.Members.{document_members}
 use Rattle.setup_diagnostics.specs.Schema.{NamesAll}
 use Rattle.nagsched_protocol.specs.declared.drive_error.DriveError.{DriveError}

@@ -1,4 +1,3 @@
-use Rattle.nagsched_run.specs.Drive.{IsNote}
 use Rattle.nagsched_run.specs.JsonRun.{JsonRunEnded, json_run_note}
 use Rattle.nagsched_cli.proofs.NoteLemmas.{noting, noting_words}
 use Rattle.nagsched_cli.proofs.session.run_as.Goals as goal
