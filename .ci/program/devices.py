@@ -67,6 +67,8 @@ class Job(NamedTuple):
     reads: bool = True
     # The lines of a conversation, each with its answer; empty for another job, which reads its whole input first.
     answers: dict[bytes, bytes] = {}
+    # What standard error says of a refused input.
+    note: bytes = b""
 
     def answers_after(self, count: int) -> bytes:
         """The answers that are written after this number of bytes of the input, before its end is known."""
@@ -143,8 +145,10 @@ def conversation_job(name: str, setup: bytes, answers: dict[bytes, bytes], statu
 def jobs() -> Iterator[Job]:
     """Each kind of run, good ones and refused ones."""
     yield case_job("rows/results/eleven-results-of-a-service")
-    yield case_job("rows/results/code-four")
-    yield case_job("rows/first-path/duplicate-host")
+    code = b'nagsched: line 2: value 3 of "report" is 4; it has to be a whole number from 0 to 3\n'
+    yield case_job("rows/results/code-four")._replace(note=code)
+    setup = b'nagsched: line 1: the setup is refused; give this line to "nagsched check" to see why\n'
+    yield case_job("rows/first-path/duplicate-host")._replace(note=setup)
     yield case_job("rows/drill/one-worker")
     yield case_job("rows/drill/plugin-without-codes")
     yield case_job("checks/a-line")
@@ -196,12 +200,16 @@ class Trial(NamedTuple):
         yield "the number of writes", self.writes not in (0, ran.call_log.count("w"))
         behind = ran.call_log.split("w", self.device.write_at)[self.device.write_at :] if self.device.write_at else []
         yield "a read after the write", self.status == FAILED and "r" in "".join(behind)
-        yield "the explanation", self.status == FAILED and ran.explanation != self.explanation()
+        yield "the explanation", (self.status == FAILED or self.job.note != b"") and ran.explanation != self.explanation()
 
     def explanation(self) -> bytes:
-        """What standard error says of the failure."""
-        failed = b"standard input can't be read" if self.device.read_at else b"standard output can't be written"
-        return b"nagsched: %b: %b\n" % (failed, REASONS[self.device.fault])
+        """What standard error says of the refusal and of the failure."""
+        if self.status != FAILED:
+            return self.job.note
+        reason = REASONS[self.device.fault]
+        if self.device.read_at:
+            return b"nagsched: standard input can't be read: %b\n" % reason
+        return self.job.note + b"nagsched: standard output can't be written: %b\n" % reason
 
     def fault(self, ran: Outcome) -> str:
         """How the outcome differs, or nothing."""
