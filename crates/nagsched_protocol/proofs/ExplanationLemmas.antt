@@ -45,7 +45,7 @@ pub stop_value : (ts : List Token) → stops ts ≡ false → are_value ts ≡ t
 stop_value ts e f = rw (e, f) refl
 
 pub stop_end : (ts : List Token) → stops ts ≡ false → are_value ts ≡ false
-    → stop_text ts ≡ codes "it ends " ++ (place_text (last_good None ts) ++ codes ", and its brackets don't match")
+    → stop_text ts ≡ codes "it ends " ++ (place_text (last_good None ts) ++ codes ", but isn't one whole value of at most 127 levels")
 stop_end ts e f = rw (e, f) refl
 
 pub other_text : (line : List ℕ) → (IsUtf8 line → ⊥) → not_json_text line ≡ codes ": it isn't UTF-8"

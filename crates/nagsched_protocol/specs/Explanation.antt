@@ -133,15 +133,15 @@ is_end None = false
 is_end (Some []) = true
 is_end (Some (t ∷ ts)) = false
 
--- whether these tokens are one value
+-- whether these tokens are one value of at most 127 levels, which is as deep as `serde_json` reads
 abbrev pub are_value : List Token → Bool
-are_value ts = is_end (skip_value max_depth ts)
+are_value ts = is_end (skip_value 127 ts)
 
 -- where reading stops in a line with these tokens, and why
 abbrev pub stop_text : List Token → List ℕ
 stop_text ts = if stops ts then codes "reading stopped " ++ place_text (last_good None ts)
     else (if are_value ts then codes "a number in it is out of range"
-    else codes "it ends " ++ (place_text (last_good None ts) ++ codes ", and its brackets don't match"))
+    else codes "it ends " ++ (place_text (last_good None ts) ++ codes ", but isn't one whole value of at most 127 levels"))
 
 abbrev pub not_json_text : List ℕ → List ℕ
 not_json_text line = if is_utf8 line then codes ": it isn't JSON; " ++ stop_text (tokens line) else codes ": it isn't UTF-8"

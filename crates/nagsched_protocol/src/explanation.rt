@@ -352,7 +352,7 @@ fn push_stop(alloc: Global, line: &mut Line, text: &str) -> Pushed
     }
     line.push_words("it ends ")?;
     push_place(line, last)?;
-    line.push_words(", and its brackets don't match")
+    line.push_words(", but isn't one whole value of at most 127 levels")
 }
 
 /// The last token before the first that is none, and whether there is such a one.
@@ -377,11 +377,11 @@ fn is_bad(token: Token<'_>) -> bool
     matches!(token, Token::Bad)
 }
 
-/// Whether the tokens are one value.
+/// Whether the tokens are one value of at most 127 levels, which is as deep as `serde_json` reads.
 fn is_value(reader: &mut Reader<'_>) -> bool
     ensures { result ≡ are_value reader.old }
 {
-    reader.skip_value(MAX_DEPTH).is_ok() && reader.next().is_none()
+    reader.skip_value(127).is_ok() && reader.next().is_none()
 }
 
 /// Appends where reading stopped.

@@ -35,6 +35,6 @@ returns c =
     let part = ap are_value (sym c.in_ok-reader-2.ensures.ok) ∙ sym c.is_value.ensures ∙ c.if-is_value.false in
     let last = c.last_good-is_stopped.ensures.last ∙ ap (last_good None) read in
     on_ok_weaker c.push_words-3.result (λ h. three_pieces c.args.line.now line c.push_place-2.new.line c.push_words-3.new.self
-    (codes "it ends ") (place_text (last_good None ts)) (codes ", and its brackets don't match") c.in_ok-push_words-2.ensures.text
+    (codes "it ends ") (place_text (last_good None ts)) (codes ", but isn't one whole value of at most 127 levels") c.in_ok-push_words-2.ensures.text
     (c.in_ok-push_place.ensures ∙ ap (λ l. line ++ place_text l) last) h
     ∙ ap (λ t. c.args.line.now ++ t) (sym (stop_end ts going part))) c.push_words-3.ensures.text
