@@ -17,8 +17,11 @@ pub returns-in_err-flush : goal.returns-in_err-flush
 returns-in_err-flush g c =
     let r = c.in_ok-input.ensures in
     let p = err_from_is_err_and c.from_residual-in_err-flush.result c.from_residual-in_err-flush.ensures.1 in
-    rw (p.1, p.2) (unflushed_run c.args.start _ _ _ _ _ _ c.in_ok-input.input.items c.in_err-flush.ensures.kind r.all r.left.0
-    (rw c.deref.ensures.value at c.in_ok-outcome.ensures.wrote) c.flush.ensures.kept, tt)
+    rw (p.1, p.2) (
+      unflushed_run c.args.start _ _ _ _ _ _ c.in_ok-input.input.items c.in_err-flush.ensures.kind r.all r.left.0
+          (rw c.deref.ensures.value at c.in_ok-outcome.ensures.wrote) c.flush.ensures.kept,
+      tt,
+    )
 
 pub returns : goal.returns
 returns g c =
