@@ -46,7 +46,21 @@ class Folder:
         return subprocess.run(self.command("--all", *words), capture_output=True, text=True, timeout=LIMIT).stdout
 
     def follow(self) -> "subprocess.Popen[str]":
-        return subprocess.Popen(self.command("--follow", "--late", 30), stdout=subprocess.PIPE, text=True)
+        """A run that follows the results, and has opened them."""
+        run = subprocess.Popen(self.command("--follow", "--late", 30), stdout=subprocess.PIPE, text=True)
+        end = time.monotonic() + LIMIT
+        while run.poll() is None and time.monotonic() < end and str(self.results) not in open_files(run.pid):
+            time.sleep(0.1)
+        return run
+
+
+def open_files(process: int) -> list[str]:
+    """The files that a process has open."""
+    links = pathlib.Path(f"/proc/{process}/fd")
+    try:
+        return [os.readlink(link) for link in links.iterdir()]
+    except OSError:
+        return []  # one was closed, or the process has ended
 
 
 def counts(report: str) -> dict[str, int]:
@@ -151,7 +165,6 @@ def check_followed(program: str, work: pathlib.Path):
     folder.results.write_text(line("h;s", 0, "HARD 1", 0, 0))
     (folder.path / "status.dat").write_text(STATUS.format(START + 180, START + 240))
     run = folder.follow()
-    time.sleep(2)
     folder.results.rename(folder.path / "results.1")
     time.sleep(1)
     with (folder.path / "results.1").open("a") as results:
