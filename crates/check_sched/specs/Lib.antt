@@ -5,6 +5,7 @@ pub mod ObjectState
 pub mod State
 pub mod Change
 pub mod Reply
+pub mod ReplyTable
 pub mod Report
 pub mod Step
 pub mod Intervals

@@ -1,5 +1,5 @@
 -- The structs that cross to C, and the values of the scheduler that they represent.
-use Rattle.std.specs.Prelude.{◌≢◌, ◌<◌, ◌^◌, ⊤, ℕ, Bool, true, false, ◌==◌, cond, Option, Some, None, unwrap_or}
+use Rattle.std.specs.Prelude.{◌≢◌, ◌<◌, ◌^◌, ⊤, ℕ, Bool, true, false, ◌==◌, cond, List, [], ◌∷◌, Option, Some, None, unwrap_or}
 use Rattle.ticket_steps.specs.declared.books.Entry.{Entry}
 use Rattle.setup_model.specs.declared.error.LoadError.{LoadError}
 use Rattle.setup_model.specs.declared.error.LoadError.TheVariants as load
@@ -21,6 +21,8 @@ use Rattle.check_sched.specs.declared.call.Call.TheVariants as call
 use Rattle.check_sched.specs.declared.call.Reply.{Reply}
 use Rattle.check_sched.specs.declared.call.Reply.TheVariants as reply
 use Rattle.check_sched.specs.declared.call.Refusal.TheVariants as refused
+use Rattle.check_sched.specs.ReplyTable as row
+use Rattle.check_sched.specs.ReplyTable.{row_of}
 use Rattle.nagsched_handles.specs.declared.kinds.TheConstants.{CALL_TAKE, CALL_REPORT, CALL_ABANDON, CALL_RESCHEDULE, CALL_ENABLE, CALL_STATUS}
 use Rattle.nagsched_handles.specs.declared.kinds.TheConstants.{REPLY_TAKEN, REPLY_PUT_OFF, REPLY_IDLE, REPLY_AT_LIMIT, REPLY_STANDING, REPLY_FREED, REPLY_DONE}
 use Rattle.nagsched_handles.specs.declared.kinds.TheConstants.{REPLY_UNKNOWN_OBJECT, REPLY_TIME_RANGE, REPLY_NOT_RUNNING, REPLY_WRONG_RUN, REPLY_RUNS_SPENT}
@@ -74,17 +76,9 @@ abbrev pub presence : Option ℕ → ℕ
 presence (Some number) = 1
 presence None = 0
 
--- a reply of this kind with an object, a run and a time
-abbrev pub reply_struct : ℕ → ℕ → ℕ → Option ℕ → CReply
-reply_struct kind object run time = record {
-  kind = kind;
-  object = object;
-  run = run;
-  time = number_or_0 time;
-  has_time = presence time;
-  changed = 0;
-  standing = no_standing;
-}
+-- a reply of this kind without fields
+abbrev pub empty_reply : ℕ → CReply
+empty_reply kind = record { kind = kind; object = 0; run = 0; time = 0; has_time = 0; changed = 0; standing = no_standing }
 
 -- a reply with this time, if there is one
 abbrev pub with_time : Option ℕ → CReply → CReply
@@ -98,27 +92,33 @@ with_time time r = record {
   standing = r.standing;
 }
 
-abbrev pub c_reply : Reply → CReply
-c_reply (reply.Taken object run) = reply_struct REPLY_TAKEN object run None
-c_reply (reply.PutOff object until) = reply_struct REPLY_PUT_OFF object 0 until
-c_reply (reply.Idle next) = reply_struct REPLY_IDLE 0 0 next
-c_reply reply.AtLimit = reply_struct REPLY_AT_LIMIT 0 0 None
-c_reply (reply.Standing standing changed next) = record {
-  kind = REPLY_STANDING;
-  object = 0;
-  run = 0;
-  time = number_or_0 next;
-  has_time = presence next;
+-- A reply with this field of a row. The struct doesn't name the object that the call asked for, and its kind says why a call was refused.
+abbrev pub with_field : row.Field → CReply → CReply
+with_field (row.run n) r = record { kind = r.kind; object = r.object; run = n; time = r.time; has_time = r.has_time; changed = r.changed; standing = r.standing }
+with_field (row.object i) r = record { kind = r.kind; object = i; run = r.run; time = r.time; has_time = r.has_time; changed = r.changed; standing = r.standing }
+with_field row.asked_object r = r
+with_field (row.next_check next) r = with_time next r
+with_field (row.standing s changed) r = record {
+  kind = r.kind;
+  object = r.object;
+  run = r.run;
+  time = r.time;
+  has_time = r.has_time;
   changed = flag changed;
-  standing = c_standing standing;
+  standing = c_standing s;
 }
-c_reply (reply.Freed next) = reply_struct REPLY_FREED 0 0 (Some next)
-c_reply reply.Done = reply_struct REPLY_DONE 0 0 None
-c_reply (reply.Refused refused.UnknownObject) = reply_struct REPLY_UNKNOWN_OBJECT 0 0 None
-c_reply (reply.Refused refused.TimeRange) = reply_struct REPLY_TIME_RANGE 0 0 None
-c_reply (reply.Refused refused.NotRunning) = reply_struct REPLY_NOT_RUNNING 0 0 None
-c_reply (reply.Refused refused.WrongRun) = reply_struct REPLY_WRONG_RUN 0 0 None
-c_reply (reply.Refused refused.RunsSpent) = reply_struct REPLY_RUNS_SPENT 0 0 None
+with_field (row.reason why) r = r
+
+abbrev pub with_fields : List row.Field → CReply → CReply
+with_fields [] r = r
+with_fields (f ∷ fs) r = with_fields fs (with_field f r)
+
+-- a reply, by its row
+abbrev pub c_row : row.Row → CReply
+c_row r = with_fields r.fields (empty_reply r.number)
+
+abbrev pub c_reply : Reply → CReply
+c_reply r = c_row (row_of r)
 
 abbrev pub c_entry : Entry Call Reply → CEntry
 c_entry e = record { pass = e.pass; call = c_call e.call; reply = c_reply e.reply }

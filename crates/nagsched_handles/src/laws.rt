@@ -8,10 +8,6 @@ ghost use Rattle.check_sched.specs.declared.call.Call.{Call};
 ghost use Rattle.check_sched.specs.declared.call.Reply.{Reply};
 ghost use Rattle.check_saved_state.specs.declared.fault.SavedFault.{SavedFault};
 ghost use Rattle.nagsched_handles.specs.declared.kinds.TheConstants.{CALL_TAKE, CALL_REPORT, CALL_ABANDON, CALL_RESCHEDULE, CALL_ENABLE, CALL_STATUS};
-ghost use Rattle.nagsched_handles.specs.declared.kinds.TheConstants.{REPLY_TAKEN};
-ghost use Rattle.nagsched_handles.specs.declared.kinds.TheConstants.{REPLY_PUT_OFF, REPLY_IDLE, REPLY_AT_LIMIT, REPLY_STANDING, REPLY_FREED, REPLY_DONE};
-ghost use Rattle.nagsched_handles.specs.declared.kinds.TheConstants.{REPLY_UNKNOWN_OBJECT, REPLY_TIME_RANGE, REPLY_NOT_RUNNING, REPLY_WRONG_RUN};
-ghost use Rattle.nagsched_handles.specs.declared.kinds.TheConstants.{REPLY_RUNS_SPENT};
 ghost use Rattle.nagsched_handles.specs.declared.kinds.TheConstants.{REFUSAL_SAVED_TOO_LONG, REFUSAL_SAVED_NOT_JSON};
 ghost use Rattle.nagsched_handles.specs.declared.kinds.TheConstants.{REFUSAL_SAVED_VERSION, REFUSAL_SAVED_SHAPE, REFUSAL_SAVED_TOO_MANY};
 ghost use Rattle.nagsched_handles.specs.declared.kinds.TheConstants.{REFUSAL_SAVED_BAD_NAME};
@@ -44,22 +40,6 @@ pub fn numbers_of_calls()
     ensures reschedule { CALL_RESCHEDULE ≡ 3 }
     ensures enable { CALL_ENABLE ≡ 4 }
     ensures status { CALL_STATUS ≡ 5 }
-{}
-
-/// The number of each kind of reply, as in the header.
-pub fn numbers_of_replies()
-    ensures taken { REPLY_TAKEN ≡ 0 }
-    ensures put_off { REPLY_PUT_OFF ≡ 1 }
-    ensures idle { REPLY_IDLE ≡ 2 }
-    ensures at_limit { REPLY_AT_LIMIT ≡ 3 }
-    ensures standing { REPLY_STANDING ≡ 4 }
-    ensures freed { REPLY_FREED ≡ 5 }
-    ensures done { REPLY_DONE ≡ 6 }
-    ensures unknown_object { REPLY_UNKNOWN_OBJECT ≡ 101 }
-    ensures time_range { REPLY_TIME_RANGE ≡ 102 }
-    ensures not_running { REPLY_NOT_RUNNING ≡ 103 }
-    ensures wrong_run { REPLY_WRONG_RUN ≡ 104 }
-    ensures runs_spent { REPLY_RUNS_SPENT ≡ 105 }
 {}
 
 /// The number of each refusal of a saved state, as in the header. The header doesn't have the last number: out

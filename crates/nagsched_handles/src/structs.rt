@@ -3,9 +3,9 @@
 //! Each struct has the layout that `nagsched.h` gives it: no padding and no `bool`. A field that a kind
 //! doesn't use is 0. If two values have the same struct, they are equal ([`crate::laws`]).
 
-ghost use Rattle.std.specs.Prelude.{◌≡◌, None};
+ghost use Rattle.std.specs.Prelude.{◌≡◌};
 ghost use Rattle.check_sched.specs.declared.call.Reply.TheVariants as reply;
-ghost use Rattle.nagsched_handles.specs.Structs.{call_struct, c_call, c_entry, c_reply, c_standing, reply_struct, with_time};
+ghost use Rattle.nagsched_handles.specs.Structs.{call_struct, c_call, c_entry, c_reply, c_standing, empty_reply, with_time};
 
 use crate::kinds;
 use crate::numbers::{flag, number_or_0, presence};
@@ -197,7 +197,7 @@ fn write_time(time: Option<u64>, output: &mut CReply)
 
 /// A reply of this kind without other fields.
 fn bare_reply(kind: u32) -> CReply
-    ensures { result ≡ reply_struct kind 0 0 None }
+    ensures { result ≡ empty_reply kind }
 {
     CReply { kind, ..NO_REPLY }
 }

@@ -1,5 +1,5 @@
 -- The text of a run, call by call, and of a history, entry by entry.
-use Rattle.std.proofs.Common.{Option, ◌≡◌, ℕ, suc, zero, List, [], ◌∷◌, ◌++◌, refl, ap, ◌∙◌, append_assoc, append-nil, sym, arith, drop, length, ◌+◌, ◌≤◌, ◌<◌, get_or}
+use Rattle.std.proofs.Common.{Option, Some, None, ◌≡◌, ℕ, suc, zero, List, [], ◌∷◌, ◌++◌, refl, ap, ◌∙◌, append_assoc, append-nil, sym, arith, drop, length, ◌+◌, ◌≤◌, ◌<◌, get_or}
 use Rattle.std.specs.Prelude.{codes, decimal, flat_map}
 use Rattle.check_saved_state.specs.Text.{saved_text}
 use Rattle.check_sched.specs.Saved.{saved_of}
@@ -20,13 +20,14 @@ use Rattle.nagsched_protocol.specs.Output.{EndsLine}
 use Rattle.check_objects.specs.Configuration.{name_of, object_count}
 use Rattle.check_sched.specs.State.{next_of, run_number_of, standing_at}
 use Rattle.nagsched_protocol.specs.Text.{refusal_line, answer_line, text_from, entry_line, line_of, list_lines, listed_line, listed_text, reply_text, saved_line}
-use Rattle.nagsched_protocol.specs.Text.{answer_of, input_refusal_text, refused_text, state_after_command, total_line, total_text}
+use Rattle.nagsched_protocol.specs.Text.{input_refusal_text, refused_text, state_after_command, total_line, total_text}
 use Rattle.nagsched_protocol.specs.declared.answer_form.AnswerForm.{AnswerForm}
 use Rattle.nagsched_protocol.specs.declared.answer_form.AnswerForm.TheVariants as forms
 use Rattle.nagsched_protocol.specs.declared.refusal.InputRefusal.{InputRefusal}
 use Rattle.nagsched_protocol.specs.Explanation.{sentence}
 use Rattle.nagsched_protocol.specs.Request.{Id, Request, id_of_line}
-use Rattle.nagsched_protocol.specs.Forms.{answer_text, json_command_line, refusal_text}
+use Rattle.nagsched_protocol.specs.CallExplanation.{explained_answer, reply_sentence, sentence_lines}
+use Rattle.nagsched_protocol.specs.Forms.{answer_text, explained_text, json_command_line, refusal_text}
 use Rattle.nagsched_protocol.specs.JsonText.{answer_members, json_list_line, json_saved_line, json_saved_text, list_members, object_text, refusal_answer}
 use Rattle.nagsched_protocol.specs.JsonText.{refused_line}
 
@@ -89,13 +90,25 @@ answer_line_ends s command.List = listed_ends s (object_count s.setup) 0 (codes 
 -- the same in each form
 json_ends : (n : ℕ) (id : Option Id) (s : State) (c : RunCommand) → EndsLine (json_command_line n id s c)
 unfolding json_saved_line json_list_line
-json_ends n id s (command.Call call) = (object_text n id (answer_members (answer_of s.setup call (step s call).1)), refl)
+json_ends n id s (command.Call call) = (object_text n id (answer_members (explained_answer n s.setup call (step s call).1)), refl)
 json_ends n id s command.Save = (json_saved_text n id s, refl)
 json_ends n id s command.List = (object_text n id (list_members s), refl)
 
+-- a line, and the line of a sentence about it if there is one
+sentence_ends : (text : List ℕ) (sentence : Option (List ℕ)) → EndsLine (line_of text ++ sentence_lines sentence)
+sentence_ends text None = (text, append-nil (line_of text))
+sentence_ends text (Some sentence) =
+    (line_of text ++ (codes "explained " ++ sentence), sym (append_assoc (line_of text) (codes "explained " ++ sentence) (10 ∷ [])))
+
+explained_ends : (n : ℕ) (s : State) (c : RunCommand) → EndsLine (explained_text n s c)
+explained_ends n s (command.Call call) =
+    let reply = (step s call).1 in sentence_ends (reply_text s.setup call reply) (reply_sentence n s.setup call reply)
+explained_ends n s command.Save = answer_line_ends s command.Save
+explained_ends n s command.List = answer_line_ends s command.List
+
 pub answer_text_ends : (form : AnswerForm) (n : ℕ) (s : State) (r : Request) → EndsLine (answer_text form n s r)
 answer_text_ends forms.Words n s r = answer_line_ends s r.command
-answer_text_ends forms.Explained n s r = answer_line_ends s r.command
+answer_text_ends forms.Explained n s r = explained_ends n s r.command
 answer_text_ends forms.Json n s r = json_ends n r.id s r.command
 
 pub refusal_text_ends : (form : AnswerForm) (line : List ℕ) (why : InputRefusal) → EndsLine (refusal_text form line why)

@@ -12,9 +12,8 @@ use Rattle.check_states.specs.Words.{kind_word, state_word}
 use Rattle.check_sched.specs.declared.call.Call.{Call}
 use Rattle.check_sched.specs.declared.call.Call.TheVariants as call
 use Rattle.check_sched.specs.declared.call.Reply.{Reply}
-use Rattle.check_sched.specs.declared.call.Reply.TheVariants as reply
-use Rattle.check_sched.specs.declared.call.Refusal.{Refusal}
-use Rattle.check_sched.specs.declared.call.Refusal.TheVariants as refused
+use Rattle.check_sched.specs.ReplyTable as row
+use Rattle.check_sched.specs.ReplyTable.{row_of}
 use Rattle.check_saved_state.specs.Text.{saved_text}
 use Rattle.check_saved_state.specs.Words.{flapping_word}
 use Rattle.check_saved_state.specs.declared.fault.SavedFault.{SavedFault}
@@ -116,16 +115,6 @@ flapping_field s = flag_field (codes "flapping") s.flapping (flapping_word s.fla
 abbrev pub changed_field : Bool → Field
 changed_field changed = flag_field (codes "changed") changed (changed_word changed)
 
--- the standing of the object with this full name, and the time of its next check
-abbrev pub standing_answer : Standing → Bool → Option ℕ → List ℕ → Answer
-standing_answer s changed next name = record {
-  kind = codes "standing";
-  fields = state_field s ∷ kind_field s ∷ attempt_field s ∷ changed_field changed ∷ flapping_field s ∷ next_field next ∷ name_field name ∷ [];
-}
-
-abbrev pub standing_text : Standing → Bool → Option ℕ → List ℕ → List ℕ
-standing_text s changed next name = answer_words (standing_answer s changed next name)
-
 -- the full name of the object that a call asks for, or nothing if it asks for no object
 abbrev pub asked_name : Configuration → Call → List ℕ
 asked_name c (call.Take now) = []
@@ -139,25 +128,21 @@ asked_name c (call.Status object) = name_of c object
 abbrev pub refused_text : List ℕ → List ℕ
 refused_text reason = codes "refused " ++ reason
 
--- why a call was refused
-abbrev pub call_refusal_text : Refusal → List ℕ
-call_refusal_text refused.UnknownObject = codes "C1 UnknownObject"
-call_refusal_text refused.TimeRange = codes "C2 TimeRange"
-call_refusal_text refused.NotRunning = codes "C3 NotRunning"
-call_refusal_text refused.WrongRun = codes "C4 WrongRun"
-call_refusal_text refused.RunsSpent = codes "C5 RunsSpent"
+-- The fields of an answer for one of a reply. An object is named by its full name.
+abbrev pub answer_fields : Configuration → Call → row.Field → List Field
+answer_fields c asked (row.run n) = number_field (codes "run") n ∷ []
+answer_fields c asked (row.object i) = name_field (name_of c i) ∷ []
+answer_fields c asked row.asked_object = name_field (asked_name c asked) ∷ []
+answer_fields c asked (row.next_check next) = next_field next ∷ []
+answer_fields c asked (row.standing s changed) = state_field s ∷ kind_field s ∷ attempt_field s ∷ changed_field changed ∷ flapping_field s ∷ []
+answer_fields c asked (row.reason why) = refusal_field why ∷ []
 
--- The answer to a call, by its reply. The object is named by its full name: the one of the reply, or else of the call.
+-- the answer to a call, by the row of its reply
+abbrev pub answer_by_row : Configuration → Call → row.Row → Answer
+answer_by_row c asked r = record { kind = r.word; fields = flat_map (answer_fields c asked) r.fields }
+
 abbrev pub answer_of : Configuration → Call → Reply → Answer
-answer_of c asked (reply.Taken object run) =
-    record { kind = codes "taken"; fields = number_field (codes "run") run ∷ name_field (name_of c object) ∷ [] }
-answer_of c asked (reply.PutOff object until) = record { kind = codes "putoff"; fields = next_field until ∷ name_field (name_of c object) ∷ [] }
-answer_of c asked (reply.Idle next) = record { kind = codes "idle"; fields = next_field next ∷ [] }
-answer_of c asked reply.AtLimit = record { kind = codes "atlimit"; fields = [] }
-answer_of c asked (reply.Standing standing changed next) = standing_answer standing changed next (asked_name c asked)
-answer_of c asked (reply.Freed next) = record { kind = codes "freed"; fields = next_field (Some next) ∷ name_field (asked_name c asked) ∷ [] }
-answer_of c asked reply.Done = record { kind = codes "done"; fields = name_field (asked_name c asked) ∷ [] }
-answer_of c asked (reply.Refused why) = record { kind = codes "refused"; fields = refusal_field (call_refusal_text why) ∷ [] }
+answer_of c asked r = answer_by_row c asked (row_of r)
 
 -- the text of the reply to a call, in words
 abbrev pub reply_text : Configuration → Call → Reply → List ℕ

@@ -1,7 +1,7 @@
 //! Answers as JSON objects. Each has one definition, in `specs/JsonText.antt`, over the same table of
 //! answers as their words.
 
-ghost use Rattle.std.specs.Prelude.{◌≡◌, ◌<◌, ◌++◌, ◌∷◌, [], IfOk, codes, decimal, option_map};
+ghost use Rattle.std.specs.Prelude.{◌≡◌, ◌<◌, ◌++◌, ◌∷◌, [], IfOk, codes, decimal, option_map, string_bytes};
 ghost use Rattle.json.specs.Token.{begin_object, end_object, end_array, key, string, number, boolean};
 ghost use Rattle.json.specs.Print.{print};
 ghost use Rattle.check_objects.specs.Configuration.{object_count};
@@ -9,9 +9,11 @@ ghost use Rattle.std.specs.List.{after_first, before_first};
 ghost use Rattle.nagsched_protocol.specs.JsonText.{Puts, answer_members, first_tokens, id_tokens, index_fields, is_space, json_answer_line, json_list_line, listed_tokens};
 ghost use Rattle.nagsched_protocol.specs.JsonText.{json_refusal_line, json_saved_line, members_of, object_tokens, place_fields, refusal_fields};
 ghost use Rattle.nagsched_protocol.specs.JsonText.{refused_line, time_token};
-ghost use Rattle.nagsched_protocol.specs.Text.{answer_of, attempt_field, kind_field, line_of, listed_answer, name_field, next_field, refusal_field, standing_answer, state_field};
+ghost use Rattle.nagsched_protocol.specs.Text.{answer_of, attempt_field, kind_field, line_of, listed_answer, name_field, next_field, refusal_field, state_field};
+ghost use Rattle.nagsched_protocol.specs.CallExplanation.{explained_answer, sentence_fields};
 ghost use Rattle.nagsched_protocol.specs.Requested.{head_id, id_view};
 
+use crate::call_explanation::explain_reply;
 use crate::explanation::explain_refusal;
 use crate::refusal::InputRefusal;
 use crate::refusal_text::{line_fault_text, saved_index, saved_reason};
@@ -34,7 +36,7 @@ pub struct Head<'a> {
     pub id: Option<&'a RequestId>,
 }
 
-/// The line of the reply to a call, as an object.
+/// The line of the reply to a call, as an object. If the call was refused, its last member explains why.
 pub fn json_reply_line(
     alloc: Global,
     head: Head,
@@ -43,11 +45,25 @@ pub fn json_reply_line(
     reply: Reply,
 ) -> Result<Vec<u8>, AllocError>
     ensures { IfOk result (λ text. text.items
-        ≡ json_answer_line head.entry.line (head_id head.entry) (answer_of setup.now call reply)) }
+        ≡ json_answer_line head.entry.line (head_id head.entry)
+        (explained_answer head.entry.line setup.now call reply)) }
 {
     let mut json = begin_line(alloc, head)?;
     put_reply(&mut json, setup, call, reply)?;
+    let explanation = explain_reply(alloc, head.line, setup, call, reply)?;
+    put_explanation(&mut json, explanation.as_ref())?;
     end_line(json)
+}
+
+/// Writes the sentence about a refused call, if there is one.
+fn put_explanation(json: &mut Writer, explanation: Option<&String>) -> Put
+    ensures { Puts result json.old json.new
+        (members_of (sentence_fields (option_map (λ text. string_bytes text.now) explanation.entry))) }
+{
+    match explanation {
+        Some(sentence) => put_text(json, "explanation", sentence.as_str()),
+        None => Ok(()),
+    }
 }
 
 /// The line of a refusal, as an object. `line` has the bytes of the refused line.
@@ -169,7 +185,7 @@ fn put_reply(json: &mut Writer, setup: &Setup, call: Call, reply: Reply) -> Put
             standing,
             changed,
             next,
-        } => put_standing(json, standing, changed, next, asked_name(setup, call)),
+        } => put_standing(json, setup, call, standing, changed, next),
         Reply::Freed { next } => {
             put_text(json, "answer", "freed")?;
             put_next(json, Some(next), asked_name(setup, call))
@@ -188,18 +204,19 @@ fn put_reply(json: &mut Writer, setup: &Setup, call: Call, reply: Reply) -> Put
 /// Writes the kind of an answer that is a standing, and its fields.
 fn put_standing(
     json: &mut Writer,
+    setup: &Setup,
+    call: Call,
     standing: Standing,
     changed: bool,
     next: Option<u64>,
-    name: &str,
 ) -> Put
-    ensures { Puts result json.old json.new (answer_members (standing_answer standing changed next name.now)) }
+    ensures { Puts result json.old json.new (answer_members (answer_of setup.now call (Reply.Standing standing changed next))) }
 {
     put_text(json, "answer", "standing")?;
     put_state(json, standing)?;
     put_flag(json, "changed", changed)?;
     put_flag(json, "flapping", standing.flapping)?;
-    put_next(json, next, name)
+    put_next(json, next, asked_name(setup, call))
 }
 
 /// Writes the object with this number, as a value of an array.

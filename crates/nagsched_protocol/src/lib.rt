@@ -20,13 +20,14 @@
 //! The modules of writing:
 //!
 //! - `text`: the text of each line, with one definition for all subcommands. `refusal_text` has the refusals,
-//!   and `explanation` the sentences that explain them.
+//!   and `explanation` the sentences that explain them. `call_explanation` has those of refused calls.
 //! - `listing`: the lines of all objects.
 //! - `json_text`: the same answers as JSON objects. `answer_form` names the forms.
 //! - `output`: gives bytes to a writer, all of them or up to a fault.
 //! - `laws`: laws of the text of a conversation, and the limits of an input and of a reply.
 
 mod answer_form;
+mod call_explanation;
 mod command;
 mod drill_command;
 mod drill_script;
@@ -66,8 +67,8 @@ pub use line_reader::{
 pub use live_error::LiveError;
 pub use outcome::{Ended, Outcome};
 pub use output::{
-    flush, print_text, refuse_as, write_json_list, write_json_reply, write_json_saved, write_list,
-    write_refusal, write_saved, write_text,
+    flush, print_text, push_explained_reply, refuse_as, write_json_list, write_json_reply,
+    write_json_saved, write_list, write_refusal, write_saved, write_text,
 };
 pub use reader::{ReaderFault, ask_reader};
 pub use refusal::{

@@ -1,24 +1,26 @@
 //! Gives bytes to a writer: a text, the line of a refusal or of a saved state, the lines of all objects,
 //! and the flush at the end. The modules `text`, `refusal_text`, `listing` and `json_text` make the lines.
 
-ghost use Rattle.std.specs.Prelude.{◌≡◌, ◌++◌, IfOk, OnOk, OnErr, IsOkUnless};
+ghost use Rattle.std.specs.Prelude.{◌≡◌, ◌≤◌, ◌+◌, ◌++◌, IfErr, IfOk, OnOk, OnErr, IsOkUnless, string_bytes, string_capacity, string_len};
 ghost use Rattle.std.specs.Io.KnownBytes.{Appends, Keeps};
 ghost use Rattle.nagsched_protocol.specs.Output.{WroteFront};
 ghost use Rattle.nagsched_protocol.specs.Explanation.{sentence};
-ghost use Rattle.nagsched_protocol.specs.Forms.{explained_line, refusal_text};
+ghost use Rattle.nagsched_protocol.specs.Forms.{refusal_text};
+ghost use Rattle.nagsched_protocol.specs.CallExplanation.{IsRefused, explained_answer, explained_line, explained_reply};
 ghost use Rattle.nagsched_protocol.specs.Requested.{head_id};
 ghost use Rattle.nagsched_protocol.specs.JsonText.{json_answer_line, json_list_line, json_saved_line};
-ghost use Rattle.nagsched_protocol.specs.Text.{answer_of, list_lines, refusal_line, saved_line};
+ghost use Rattle.nagsched_protocol.specs.Text.{list_lines, refusal_line, saved_line};
 ghost use Rattle.nagsched_protocol.specs.Written.{IsLineWritten};
 
 use crate::answer_form::AnswerForm;
+use crate::call_explanation::explain_reply;
 use crate::drive_error::DriveError;
 use crate::explanation::explain_refusal;
 use crate::json_text::{Head, json_list_line, json_refusal_line, json_reply_line, json_saved_line};
 use crate::listing::list_lines;
 use crate::refusal::InputRefusal;
 use crate::refusal_text::push_refusal;
-use crate::text::saved_line;
+use crate::text::{Pushed, REPLY_BYTES, push_reply, saved_line};
 use check_objects::Setup;
 use check_sched::{Call, Reply, Sched};
 use std::alloc::{AllocError, Global};
@@ -140,10 +142,42 @@ fn explained_refusal(
     let explanation = explain_refusal(alloc, line, refusal)?;
     let mut text = String::new(alloc);
     push_refusal(&mut text, refusal)?;
-    text.push_str("explained ")?;
-    text.push_str(explanation.as_str())?;
-    text.push_str("\n")?;
+    push_explained(&mut text, explanation.as_str())?;
     Ok(text.into_bytes())
+}
+
+/// Appends a sentence as a line of its own.
+fn push_explained(text: &mut String, sentence: &str) -> Pushed
+    ensures text { OnOk result (string_bytes text.new ≡ string_bytes text.old ++ explained_line sentence.now) }
+    ensures capacity { string_capacity text.old ≤ string_capacity text.new }
+{
+    text.push_str("explained ")?;
+    text.push_str(sentence)?;
+    text.push_str("\n")
+}
+
+/// Appends the line of the reply to the call in the line with this number, like [`push_reply`]. If the call
+/// was refused, a second line explains why. If the text has room for `REPLY_BYTES` more, out of memory comes
+/// only after a refused call.
+pub fn push_explained_reply(
+    alloc: Global,
+    text: &mut String,
+    number: usize,
+    setup: &Setup,
+    call: Call,
+    reply: Reply,
+) -> Pushed
+    ensures text { OnOk result (string_bytes text.new
+        ≡ string_bytes text.old ++ explained_reply number setup.now call reply) }
+    ensures capacity { string_capacity text.old ≤ string_capacity text.new }
+    ensures refused { string_len text.old + REPLY_BYTES ≤ string_capacity text.old
+        → IfErr result (λ e. IsRefused reply) }
+{
+    push_reply(text, setup, call, reply)?;
+    match explain_reply(alloc, number, setup, call, reply)? {
+        Some(sentence) => push_explained(text, sentence.as_str()),
+        None => Ok(()),
+    }
 }
 
 /// Writes the line of the reply to a call as JSON. Nothing is flushed. The error is `Write`, and a prefix of
@@ -158,7 +192,8 @@ pub fn write_json_reply<W: Write>(
     writer: &mut W,
 ) -> Result<(), DriveError>
     ensures { IsLineWritten result (W.contents writer.old) (W.contents writer.new)
-        (json_answer_line head.entry.line (head_id head.entry) (answer_of setup.now call reply)) }
+        (json_answer_line head.entry.line (head_id head.entry)
+        (explained_answer head.entry.line setup.now call reply)) }
 {
     let text = json_reply_line(alloc, head, setup, call, reply)?;
     write_text(writer, &text)

@@ -4,7 +4,8 @@
 ghost use Rattle.std.specs.Prelude.{◌≡◌, ◌+◌, ◌≤◌, ◌++◌, IfOk, OnOk, codes, decimal, length, string_bytes};
 ghost use Rattle.check_objects.specs.Configuration.{name_of};
 ghost use Rattle.nagsched_protocol.specs.Text.{reply_text, reply_line, entry_line, total_line, saved_line};
-ghost use Rattle.nagsched_protocol.specs.Text.{standing_text, time_text, call_refusal_text};
+ghost use Rattle.check_sched.specs.ReplyTable.{refusal_row};
+ghost use Rattle.nagsched_protocol.specs.Text.{time_text};
 ghost use Rattle.nagsched_protocol.specs.Text.{asked_name, state_text, changed_word};
 ghost use Rattle.check_saved_state.specs.Words.{flapping_word};
 ghost use Rattle.nagsched_protocol.specs.Capacity.{PushesAtMost};
@@ -59,7 +60,7 @@ fn push_reply_text(line: &mut String, setup: &Setup, call: Call, reply: Reply) -
             standing,
             changed,
             next,
-        } => push_standing(line, standing, changed, next, asked_name(setup, call)),
+        } => push_standing(line, setup, call, standing, changed, next),
         Reply::Freed { next } => push_timed(line, "freed ", Some(next), asked_name(setup, call)),
         Reply::Done => push_worded(line, "done ", asked_name(setup, call)),
         Reply::Refused(refusal) => push_worded(line, "refused ", call_refusal_text(refusal)),
@@ -87,17 +88,18 @@ fn push_idle(line: &mut String, next: Option<u64>) -> Pushed
     push_time(line, next)
 }
 
-/// Appends the standing of the object with this full name, and the time of its next check.
+/// Appends the standing of the object that a call asked for, and the time of its next check.
 fn push_standing(
     line: &mut String,
+    setup: &Setup,
+    call: Call,
     standing: Standing,
     changed: bool,
     next: Option<u64>,
-    name: &str,
 ) -> Pushed
     ensures text { OnOk result (string_bytes line.new
-        ≡ string_bytes line.old ++ standing_text standing changed next name.now) }
-    ensures capacity { PushesAtMost (length name.now + 128) result line.old line.new }
+        ≡ string_bytes line.old ++ reply_text setup.now call (Reply.Standing standing changed next)) }
+    ensures capacity { PushesAtMost 640 result line.old line.new }
 {
     line.push_str("standing ")?;
     line.push_str(state_text(standing))?;
@@ -106,7 +108,7 @@ fn push_standing(
     line.push_str(marks_between_spaces(changed, standing.flapping))?;
     push_time(line, next)?;
     line.push_str(" ")?;
-    line.push_str(name)?;
+    line.push_str(asked_name(setup, call))?;
     Ok(())
 }
 
@@ -249,7 +251,7 @@ pub(crate) fn saved_line(alloc: Global, sched: &Sched) -> Result<Vec<u8>, AllocE
 
 /// Why a call was refused. A refused call has changed nothing.
 pub(crate) fn call_refusal_text(refusal: Refusal) -> &'static str
-    ensures text { result.now ≡ call_refusal_text refusal }
+    ensures text { result.now ≡ (refusal_row refusal).reason }
     ensures bounded { length result.now ≤ 16 }
 {
     match refusal {

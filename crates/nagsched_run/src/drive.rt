@@ -2,7 +2,7 @@
 
 ghost use Rattle.std.specs.Prelude.{◌≡◌, ◌≢◌, ◌≤◌, IfErr, IfOk, IfSome, IsErrAnd, None, OnOk, string_capacity};
 ghost use Rattle.check_sched.specs.Step.{step};
-ghost use Rattle.nagsched_protocol.specs.Forms.{answer_text, json_line, refusal_text};
+ghost use Rattle.nagsched_protocol.specs.Forms.{answer_text, explained_text, json_line, refusal_text};
 ghost use Rattle.nagsched_protocol.specs.Start.{CanStart};
 ghost use Rattle.nagsched_protocol.specs.Text.{answer_line, line_from, state_after_command, text, text_from};
 ghost use Rattle.nagsched_protocol.specs.Written.{IsLineWritten, IsTextWritten};
@@ -16,9 +16,9 @@ ghost use Rattle.nagsched_protocol.specs.Streams.{streams};
 use check_sched::{Call, LAST_MOMENT, Sched};
 use nagsched_protocol::{
     AnswerForm, DriveError, Ended, Head, MAX_READ_BYTES, Outcome, REPLY_BYTES, Request, RunCommand,
-    Script, ScriptError, Start, explain_refusal, flush, push_reply, read_at_most, refuse_as,
-    refused_bytes, write_json_list, write_json_reply, write_json_saved, write_list, write_saved,
-    write_text,
+    Script, ScriptError, Start, explain_refusal, flush, push_explained_reply, push_reply,
+    read_at_most, refuse_as, refused_bytes, write_json_list, write_json_reply, write_json_saved,
+    write_list, write_saved, write_text,
 };
 use std::alloc::Global;
 use std::io::{Read, Write};
@@ -205,11 +205,62 @@ pub(crate) fn answer_as<W: Write>(
         → IfErr result (λ e. e ≡ DriveError.Memory → sched.new ≡ sched.old) }
 {
     match form {
-        AnswerForm::Words | AnswerForm::Explained => {
-            answer_command(alloc, sched, request.command, line, writer)
-        }
+        AnswerForm::Words => answer_command(alloc, sched, request.command, line, writer),
+        AnswerForm::Explained => answer_explained(
+            alloc,
+            number,
+            sched,
+            request.command,
+            line,
+            writer,
+        ),
         AnswerForm::Json => answer_as_json(alloc, number, sched, request, writer),
     }
+}
+
+/// Carries out one command, and writes its answer like [`answer_command`]. If a call is refused, a second line
+/// explains why. The command is in the line with this number.
+fn answer_explained<W: Write>(
+    alloc: Global,
+    number: usize,
+    sched: &mut Sched,
+    command: RunCommand,
+    line: &mut String,
+    writer: &mut W,
+) -> Result<(), DriveError>
+    ensures state { sched.new ≡ state_after_command sched.old command }
+    ensures wrote { IsLineWritten result (W.contents writer.old) (W.contents writer.new)
+        (explained_text number sched.old command) }
+    ensures capacity { string_capacity line.old ≤ string_capacity line.new }
+    ensures sufficient { REPLY_BYTES ≤ string_capacity line.old
+        → IfErr result (λ e. e ≡ DriveError.Memory → sched.new ≡ sched.old) }
+{
+    match command {
+        RunCommand::Call(call) => make_explained_call(alloc, number, sched, call, line, writer),
+        RunCommand::Save | RunCommand::List => answer_command(alloc, sched, command, line, writer),
+    }
+}
+
+/// Makes the call of the line with this number, and writes its explained reply through the buffer `line`.
+fn make_explained_call<W: Write>(
+    alloc: Global,
+    number: usize,
+    sched: &mut Sched,
+    call: Call,
+    line: &mut String,
+    writer: &mut W,
+) -> Result<(), DriveError>
+    ensures state { sched.new ≡ (step sched.old call).0 }
+    ensures wrote { IsLineWritten result (W.contents writer.old) (W.contents writer.new)
+        (explained_text number sched.old (RunCommand.Call call)) }
+    ensures capacity { string_capacity line.old ≤ string_capacity line.new }
+    ensures sufficient { REPLY_BYTES ≤ string_capacity line.old
+        → IfErr result (λ e. e ≡ DriveError.Memory → sched.new ≡ sched.old) }
+{
+    let reply = sched.apply(call);
+    line.clear();
+    push_explained_reply(alloc, line, number, sched.setup(), call, reply)?;
+    write_text(writer, line.as_bytes())
 }
 
 /// Carries out the command of a request, and writes its answer as JSON. The request is in the line with this
