@@ -77,8 +77,9 @@ def options_of(arguments: List[str]) -> Optional[Tuple[str, ...]]:
 
 def at_limits() -> Iterator[Input]:
     """Inputs that are longer than a case's file should be."""
-    saved: Members = {"attempt": 1, "check_interval": 300_000, "checked": False, "enabled": True, "enabled_in_setup": True, "flapping": "STEADY", "forced": False,
-             "kind": "HARD", "last_hard_state": "UP", "max_check_attempts": 1, "next_check": 0, "results": "", "run": None, "state": "UP"}
+    saved: Members = {
+        "attempt": 1, "check_interval": 300_000, "checked": False, "enabled": True, "enabled_in_setup": True, "flapping": "STEADY", "forced": False,
+        "kind": "HARD", "last_hard_state": "UP", "max_check_attempts": 1, "next_check": 0, "results": "", "run": None, "state": "UP"}
     state = {"format": 1, "objects": [{**saved, "name": f"h{number}"} for number in range(4_097)], "runs": 0, "start": 0}
     yield Input("a long setup", (), b"{}" + b" " * DOCUMENT)
     yield Input("a long saved state", ("--resume",), SERVICE + b" " * (DOCUMENT + 1))
