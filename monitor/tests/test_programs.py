@@ -5,14 +5,17 @@ import pathlib
 import shutil
 import subprocess
 import sys
-from typing import Optional, Tuple
+import time
+from typing import List, Optional, Tuple
 from unittest import mock
 
 from nagsched_monitor.faults import MonitorFault, user_name
+from nagsched_monitor.run.runners import RunnerPool
 from nagsched_monitor.scheduler.mirroring import carry_over
 from nagsched_monitor.scheduler.schedulers import Conversation
 from nagsched_monitor.site.site import read_site
 from nagsched_monitor.system import programs
+from nagsched_monitor.system.poller import FilePoller
 from nagsched_monitor.system.programs import INSTALL, RUNNER, SCHEDULER, Program
 
 from .running import MONITOR, ProcessTest
@@ -127,6 +130,16 @@ class Programs(ProcessTest):
         self.assertRaisesRegex(Exception, "^nagsched can't be run: /no/such: No such file or directory: build it with ", Conversation, "/no/such", b"{}", 0)
 
 
+    def test_while_a_monitor_runs(self) -> None:
+        """A runner that is gone, here and elsewhere."""
+        lines: List[str] = []
+        for name, slots in (("local", None), ("far", 8)):
+            RunnerPool(name, [self.path], 1, slots, 0.0, lines.append, FilePoller(), time.monotonic).close()
+        missing = f"{self.path}: No such file or directory"
+        self.assertEqual(lines, [f"a runner can't be started: {missing}: {RUNNER.advice()}; it is tried again",
+                                 f"the runner far can't be started: {missing}: correct its name, or make it; it is tried again"])
+
+
 class Places(ProcessTest):
     """The places of programs."""
 
@@ -200,6 +213,7 @@ class Files(ProcessTest):
         words = ["--program", PROGRAM, "--page", "127.0.0.1:0", "--livestatus", str(self.folder / "livestatus"), str(self.folder)]
         with log.open("wb") as file:
             running = subprocess.Popen([sys.executable, str(home / "nagsched-monitor"), *words], stdout=file, stderr=file, text=True)
+            self.addCleanup(running.wait, LONG)
             self.addCleanup(self.stop_monitor, running)
             wanted = [f"{home}/nagsched_monitor/outputs/page.css: No such file or directory: {INSTALL}\n",
                       f"No module named 'nagsched_monitor.outputs.livestatus_query', in {home}: {INSTALL}\n"]

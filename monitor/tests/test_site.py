@@ -12,21 +12,13 @@ from nagsched_monitor.model.objects import Command
 from nagsched_monitor.site import command_lines
 from nagsched_monitor.site.site import read_site
 
-from .simulated import PROGRAM, SiteTest
+from .simulated import PROGRAM, SiteFilesTest
 
 HOST = {"name": "web", "max_check_attempts": 3}
 TRAP = {"host": "web", "description": "trap", "max_check_attempts": 1, "enabled": False}
 
 
-class SiteFiles(SiteTest):
-    def refused(self, *words: str) -> None:
-        """The site is refused, by a line that has all of these."""
-        with self.assertRaises(SiteFault) as caught:
-            read_site(self.folder, PROGRAM)
-        for word in words:
-            self.assertIn(word, str(caught.exception))
-        self.assertNotIn("\n", str(caught.exception))
-
+class SiteFiles(SiteFilesTest):
     def test_what_people_see(self) -> None:
         self.write_site([HOST], [], directory={"host_groups": {"linux": {"alias": "Linux"}}, "contact_groups": {"team": {"members": ["ada"]}},
                                                "contacts": {"ada": {}}},
