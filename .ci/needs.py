@@ -37,6 +37,7 @@ PROGRAMS = {
     "nm": Program("binutils", "test", "the names in the C library"),
     "pkg-config": Program("pkg-config", "test", "the installed C library"),
     "node": Program("nodejs", "", "examples/client.mjs"),
+    "go": Program("golang-go", "", "examples/monitor.go"),
     "mypy": Program("mypy", "", "the types of the Python files"),
     "mandoc": Program("mandoc", "", "what mandoc says of the manual pages"),
     "groff": Program("groff", "", "what groff says of the manual pages"),

@@ -5,10 +5,11 @@
 set -eu
 here=$(cd "$(dirname "$0")" && pwd)
 file=${1:-$here/out/nagsched-runner}
+version=$(cat "$here/../VERSION")
 mkdir -p "$(dirname "$file")"
 # The file is replaced as a whole, since a monitor may run it while it is built again.
 made=$(mktemp "$file.XXXXXX")
 trap 'rm -f "$made"' EXIT
-cc -std=c11 -O2 -Wall -Wextra -Wconversion -Werror ${CFLAGS--static} -pthread -o "$made" "$here"/runner/*.c -lm
+cc -std=c11 -O2 -Wall -Wextra -Wconversion -Werror ${CFLAGS--static} -pthread "-DVERSION=\"$version\"" -o "$made" "$here"/runner/*.c -lm
 chmod 755 "$made"
 mv "$made" "$file"

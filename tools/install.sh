@@ -70,7 +70,7 @@ python3 "$top/tools/pages.py" "$pages"
 for page in "$pages"/*; do
     place 644 "$page" "share/doc/nagsched/$(basename "$page")"
 done
-for example in "$top"/examples/*.{txt,out} "$top"/c/examples/*.c "$top"/monitor/examples/*.yml; do
+for example in "$top"/examples/*.{txt,out,mjs,go} "$top"/c/examples/*.c "$top"/monitor/examples/*.yml; do
     place 644 "$example" "share/doc/nagsched/examples/$(basename "$example")"
 done
 for example in "$top"/{examples,python/examples,monitor/examples}/*.py; do

@@ -31,7 +31,7 @@ proved=()
 compgen -G 'crates/*/out/rlib' > /dev/null || proved=(--proved)
 
 # Parts that run one after another. The others have lanes of their own.
-short=(examples pages limits pairs judge session live devices resume damage mutated saved refusals setups schema tools second_opinion missing gate)
+short=(examples pages limits pairs judge session live devices resume damage mutated saved refusals forms setups schema tools second_opinion missing gate)
 
 # Prints a line about the work, with the time so far.
 tell() { echo "test, $((SECONDS / 60)) min $((SECONDS % 60)) s: $*"; }

@@ -58,6 +58,7 @@ def check_installed(program, prefix, work):
     job = '{"job":1,"words":["echo","fine"],"limit":9}'
     ran = command_output("sh", "-c", f"(echo '{job}'; sleep 1) | {prefix}/bin/nagsched-runner")
     yield "the runner", ran, ('{"job":1,"code":0,"end":"exited","output":"fine\\u000a"}\n', 0)
+    yield "the runner's version", command_output(prefix / "bin/nagsched-runner", "--version"), (f"nagsched-runner {version}", 0)
     yield "the worker", command_output(prefix / "bin/nagsched-gearman-worker", "--help")[1], 0
     own = {file.name for file in (TOP / "monitor/from_nagios").glob("*.py")}
     yield "the converter's modules that are missing", own - {file.name for file in (prefix / "lib/nagsched").iterdir()}, set()

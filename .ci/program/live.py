@@ -21,6 +21,7 @@ import termios
 import threading
 import time
 
+from answers import text_in_words
 from harness import Harness
 from cases import runs
 
@@ -32,7 +33,6 @@ DOCUMENT = 16_777_216
 LONG_LINE = 70_000_000
 MEGABYTE = 1 << 20
 ADDRESSES = 64 * MEGABYTE
-FLAGS = {"changed": ("no", "yes"), "flapping": ("STEADY", "FLAPPING")}
 ID, NO_VALUE = b'["take",0,{"id":7}]\n', b'["take"]\n'
 
 
@@ -60,33 +60,13 @@ def compare_cases(harness):
         harness.compare(case.name, (case.wanted, 0), harness.run(["live", *case.arguments[1:]], case.given))
 
 
-def field_in_words(name, value):
-    """A field of an answer in JSON, as `run` writes it."""
-    if isinstance(value, bool):
-        return FLAGS[name][value]
-    return "none" if value is None else str(value)
-
-
-def answer_in_words(answer):
-    """The lines of `run` that say the same as an answer in JSON."""
-    fields = [field_in_words(name, value) for name, value in answer.items() if name not in ("line", "answer", "objects", "saved")]
-    kind = answer["answer"]
-    if kind == "listed":
-        objects = [" ".join(["object", *(field_in_words(*field) for field in each.items())]) for each in answer["objects"]]
-        return [f"listed {len(objects)}", *objects]
-    if kind == "saved":
-        fields = [json.dumps(answer["saved"], ensure_ascii=False, separators=(",", ":"))]
-    return [" ".join([kind, *fields])]
-
-
 def compare_json(harness):
     """`run` and `live` write the same JSON on each case. It says what the case's words say, and the numbers of the lines that aren't blank."""
     for case in runs():
         ran = harness.run(["run", "--json", *case.arguments[1:]], case.given)
         harness.compare(f"{case.name}: live --json", ran, harness.run(["live", "--json", *case.arguments[1:]], case.given))
         answers = [json.loads(line) for line in ran[0].splitlines()]
-        words = "".join(f"{line}\n" for answer in answers for line in answer_in_words(answer))
-        harness.compare(f"{case.name}: --json", (case.wanted.decode(), 0), (words, ran[1]))
+        harness.compare(f"{case.name}: --json", (case.wanted.decode(), 0), (text_in_words(answers), ran[1]))
         first = 2 if "--resume" in case.arguments else 1
         lines = [n for n, line in enumerate(case.given.split(b"\n"), 1) if n > first and line.strip(b" \t\r")]
         harness.compare(f"{case.name}: numbers of lines", lines, [answer["line"] for answer in answers])

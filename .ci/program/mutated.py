@@ -13,7 +13,7 @@ import random
 import re
 import subprocess
 import sys
-from typing import Any, List, Union
+from typing import Any, Dict, List, Union
 
 from harness import SECONDS, SERVICE, Harness
 
@@ -119,7 +119,7 @@ def is_number(value: Any) -> bool:
     return isinstance(value, int) and not isinstance(value, bool)
 
 
-KINDS = {
+KINDS: Dict[str, List[Any]] = {
     "take": [is_number], "report": [None, is_number, is_number], "abandon": [None, is_number, is_number], "reschedule": [None, is_number, bool],
     "enable": [None, bool], "status": [None], "save": [],
 }

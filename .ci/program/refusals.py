@@ -19,7 +19,7 @@ import sys
 import tempfile
 from concurrent.futures import ThreadPoolExecutor
 
-from harness import EXAMPLES, TOP, Harness, input_lines
+from harness import EXAMPLES, SERVICE, TOP, Harness, input_lines
 import needs
 
 HERE = pathlib.Path(__file__).resolve().parent
@@ -66,10 +66,20 @@ def resume_runs(harness):
     yield "check, a saved state that is refused", ["check", "--resume"], refused, harness.run(["check", "--resume"], refused)[0]
 
 
+def form_runs(harness):
+    """The office, and lines and calls that are refused, in the other forms of answers."""
+    office = (EXAMPLES / "office.txt").read_bytes()
+    lines = ('["take",0]', '["report","h",9,0]', '["take"]', "[", '["report","h",1,4]', '["status","x"]', '["list"]', '["save"]')
+    for words in (["run", "--json"], ["live", "--json"], ["live", "--explain"]):
+        for what, given in (("the office", office), ("refused lines", SERVICE + input_lines(*lines)), ("a refused setup", input_lines('{"hosts":5}'))):
+            yield f"{' '.join(words)}, {what}", words, given, harness.run(words, given)[0]
+
+
 def all_runs(harness):
     """Each run to test: its name, its arguments, its input, and its output with ample memory, or nothing if that varies."""
     yield from check_runs(harness)
     yield from resume_runs(harness)
+    yield from form_runs(harness)
     yield "schema", ["schema"], b"", (TOP / "docs/setup.schema.json").read_bytes()
     office, drill = ((EXAMPLES / f"{name}.txt").read_bytes() for name in ("office", "drill"))
     for word in ("run", "live"):

@@ -1,5 +1,5 @@
-/* nagsched-runner [--only FILE]: runs plugins. It reads jobs from its standard input and writes results to its standard output, one JSON object per line.
- * docs/scaling.md describes them. Each line that is read has one answer.
+/* nagsched-runner [--only FILE | --version]: runs plugins. It reads jobs from its standard input and writes results to its standard output, one JSON object
+ * per line. docs/scaling.md describes them. Each line that is read has one answer.
  *
  * The runner ends with its standard input, or when nobody reads its results. Its plugins are then killed, with their process groups, even if the runner was
  * killed itself. A plugin's run ends with its process, whether or not children are left. Every wait has a limit.
@@ -220,12 +220,16 @@ static bool open_runner(struct runner *runner) {
 
 int main(int count, char **words) {
     static struct runner runner;
+    if (count == 2 && strcmp(words[1], "--version") == 0) {
+        puts("nagsched-runner " VERSION);
+        return fflush(stdout) == 0 ? 0 : 1;
+    }
     if (count == 3 && strcmp(words[1], "--only") == 0) {
         runner.allowed = allowed_read(words[2]);
         if (runner.allowed == NULL)
             return 1;
     } else if (count != 1) {
-        fputs("usage: nagsched-runner [--only FILE]\nRuns plugins: reads jobs from standard input, writes results to standard output.\n", stderr);
+        fputs("usage: nagsched-runner [--only FILE | --version]\nRuns plugins: reads jobs from standard input, writes results to standard output.\n", stderr);
         return 2;
     }
     if (!open_runner(&runner)) {

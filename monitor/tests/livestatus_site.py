@@ -12,6 +12,7 @@ from nagsched_monitor.store.rows import StoredChange, StoredStanding
 
 from .shown_site import standing, store_site
 from .simulated import SiteTest
+from .waiting import exchange
 
 NOW = 1_795_766_400
 HOSTS = {"gate": [], "web": ["gate"], "db": ["gate"]}
@@ -25,13 +26,7 @@ def ask(path: pathlib.Path, text: str, is_all: bool = True) -> str:
     with socket.socket(socket.AF_UNIX) as connection:
         connection.settimeout(30)
         connection.connect(str(path))
-        connection.sendall(text.encode(errors="surrogateescape"))
-        if is_all:
-            connection.shutdown(socket.SHUT_WR)
-        came = b""
-        while data := connection.recv(65_536):
-            came += data
-        return came.decode()
+        return exchange(connection, text.encode(errors="surrogateescape"), is_all).decode()
 
 
 class LivestatusTest(SiteTest):

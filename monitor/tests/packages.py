@@ -62,36 +62,28 @@ define hostgroup {
 	}
 
 """
+CHECKED = """	check_period	always
+	check_command	check
+	contacts	operator
+	notification_period	always
+	check_interval	1.000000
+	retry_interval	1.000000
+	max_check_attempts	2
+	}
+
+"""
 HOST = """define host {
 	host_name	%s
 	display_name	%s
 	alias	%s
 	address	127.0.0.1
 	parents	%s
-	check_period	always
-	check_command	check
-	contacts	operator
-	notification_period	always
-	check_interval	1.000000
-	retry_interval	1.000000
-	max_check_attempts	2
-	}
-
-"""
+""" + CHECKED
 SERVICE = """define service {
 	host_name	%s
 	service_description	%s
 	display_name	%s
-	check_period	always
-	check_command	check
-	contacts	operator
-	notification_period	always
-	check_interval	1.000000
-	retry_interval	1.000000
-	max_check_attempts	2
-	}
-
-"""
+""" + CHECKED
 MAIN = """object_cache_file={0}/objects.cache
 status_file={0}/status.dat
 command_file={0}/nagios.cmd

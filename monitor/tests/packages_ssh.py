@@ -21,7 +21,7 @@ from typing import Any, Counter, Dict, List, Tuple
 HERE = pathlib.Path(__file__).resolve().parent.parent
 sys.path.insert(0, str(HERE))
 
-from nagsched_monitor.system.processes import runner_command  # noqa: E402
+from nagsched_monitor.system.programs import runner_command  # noqa: E402
 from tests.ssh_server import SshServer, missing_program  # noqa: E402
 from tests.waiting import becomes_true  # noqa: E402
 

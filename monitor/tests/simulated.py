@@ -10,6 +10,7 @@ from typing import Any, Callable, Dict, List, Mapping, Optional, Set, Tuple
 
 from nagsched_monitor.core.engine import Engine
 from nagsched_monitor.core.requests import Request
+from nagsched_monitor.faults import SiteFault
 from nagsched_monitor.model.clock import Clock
 from nagsched_monitor.model.jobs import Event, Job, JobFinished, JobLost
 from nagsched_monitor.model.objects import Owner
@@ -249,6 +250,18 @@ class SiteTest(unittest.TestCase):
         monitor = SimulatedMonitor(self.folder, plugin, clock, converse)
         self.addCleanup(monitor.close)
         return monitor
+
+
+class SiteFilesTest(SiteTest):
+    """A test with sites of which some are refused."""
+
+    def refused(self, *words: str) -> None:
+        """The site is refused, by a line that has all of these."""
+        with self.assertRaises(SiteFault) as caught:
+            read_site(self.folder, PROGRAM)
+        for word in words:
+            self.assertIn(word, str(caught.exception))
+        self.assertNotIn("\n", str(caught.exception))
 
 
 def fine(name: str, moment: int) -> Tuple[int, int, str]:

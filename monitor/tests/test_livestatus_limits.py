@@ -6,7 +6,7 @@ import sqlite3
 import stat
 import time
 from functools import partial
-from typing import Counter
+from typing import Counter, List
 from unittest import mock
 
 from nagsched_monitor.faults import MonitorFault
@@ -152,14 +152,19 @@ class Limits(LivestatusTest):
             self.assertTrue(answer.startswith("413: a request has at most 1048576 bytes"), answer[:80])
         self.assertEqual(self.ask("GET hosts", "Columns: name", "Limit: 1"), "db\n")
 
-    def test_slow_and_many_clients(self) -> None:
+    def clients(self, sent: bytes) -> List[socket.socket]:
+        """As many clients as there may be, each of which has sent this."""
         self.serve()
         clients = [socket.socket(socket.AF_UNIX) for _ in range(MOST_CLIENTS)]
         for client in clients:
             self.addCleanup(client.close)
             client.settimeout(20)
             client.connect(str(self.path))
-            client.sendall(b"GET ho")
+            client.sendall(sent)
+        return clients
+
+    def test_slow_and_many_clients(self) -> None:
+        self.clients(b"GET ho")
         self.assertTrue(becomes_true(lambda: len(self.server.ends_at) == MOST_CLIENTS))
         with self.assertRaises(OSError), socket.socket(socket.AF_UNIX) as late:
             late.settimeout(20)
@@ -174,13 +179,8 @@ class Limits(LivestatusTest):
         self.assertEqual(self.ask("GET hosts", "Columns: name", "Limit: 1"), "db\n")
 
     def test_a_silent_client_makes_room(self) -> None:
-        self.serve()
-        clients = [socket.socket(socket.AF_UNIX) for _ in range(MOST_CLIENTS)]
+        clients = self.clients(b"GET hosts\nStats: name !=\nKeepAlive: on\n\n")
         for client in clients:
-            self.addCleanup(client.close)
-            client.settimeout(20)
-            client.connect(str(self.path))
-            client.sendall(b"GET hosts\nStats: name !=\nKeepAlive: on\n\n")
             self.assertEqual(client.recv(100), b"3\n")
         self.assertTrue(becomes_true(lambda: len(self.server.silent_since) == MOST_CLIENTS))
         time.sleep(1.1)

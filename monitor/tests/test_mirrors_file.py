@@ -1,10 +1,9 @@
 """The file of a site's mirrors, and each way in which it can be wrong."""
 from typing import Any, Dict, List, Tuple
 
-from nagsched_monitor.faults import SiteFault
 from nagsched_monitor.site.site import read_site
 
-from .simulated import PROGRAM, SiteTest
+from .simulated import PROGRAM, SiteFilesTest
 
 GATEWAY: Dict[str, Any] = {"name": "gateway", "max_check_attempts": 3}
 PING: Dict[str, Any] = {"host": "gateway", "description": "ping", "max_check_attempts": 2}
@@ -12,20 +11,13 @@ NEVER: Dict[str, Any] = {"enabled": False, "check_interval": 0, "retry_interval"
 FAR: Dict[str, Any] = {"name": "far", "parents": ["gateway"], "max_check_attempts": 3}
 
 
-class MirrorsFile(SiteTest):
+class MirrorsFile(SiteFilesTest):
     def write_parts(self, second: Dict[str, Any], mirrors: Any, first: Any = None) -> None:
         """A site of two parts. The first has commands for its objects, and the second only for those that aren't mirrors."""
         self.write("part-1.json", first or {"hosts": [GATEWAY], "services": [PING]})
         self.write("part-2.json", second)
         self.write("mirrors.json", mirrors)
         self.write("commands.json", {name: {"line": "true"} for name in ("gateway", "gateway;ping", "far")})
-
-    def refused(self, *words: str) -> None:
-        with self.assertRaises(SiteFault) as caught:
-            read_site(self.folder, PROGRAM)
-        for word in words:
-            self.assertIn(word, str(caught.exception))
-        self.assertNotIn("\n", str(caught.exception))
 
     def second(self, **of_mirror: Any) -> Dict[str, Any]:
         return {"hosts": [{**GATEWAY, **NEVER, **of_mirror}, FAR]}

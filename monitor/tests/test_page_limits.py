@@ -9,20 +9,13 @@ from nagsched_monitor.outputs import page
 from nagsched_monitor.system.thread_server import MOST_CLIENTS
 
 from .shown_site import PageTest, fill_database, standing
-from .waiting import becomes_true
+from .waiting import becomes_true, exchange
 
 
 class Refused(PageTest):
     def raw(self, sent: bytes, is_all: bool = True) -> bytes:
-        """The answer to these bytes, after which the client ends, or sends nothing more."""
         with socket.create_connection(("127.0.0.1", self.port), timeout=20) as connection:
-            connection.sendall(sent)
-            if is_all:
-                connection.shutdown(socket.SHUT_WR)
-            came = b""
-            while data := connection.recv(65_536):
-                came += data
-            return came
+            return exchange(connection, sent, is_all)
 
     def test_paths_and_methods(self) -> None:
         fill_database(self.folder, [standing("h")])

@@ -12,7 +12,8 @@ from unittest import mock
 
 from nagsched_monitor.faults import MonitorFault
 from nagsched_monitor.system.addresses import is_loopback, parse_address, shown_url, test_url
-from nagsched_monitor.system.processes import FOLDER, LONGEST_PAUSE, HelperProcess
+from nagsched_monitor.system.processes import LONGEST_PAUSE, HelperProcess
+from nagsched_monitor.system.programs import FOLDER
 
 from .simulated import PROGRAM, SiteTest
 from .waiting import becomes_true

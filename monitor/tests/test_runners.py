@@ -13,6 +13,7 @@ from unittest import mock
 from nagsched_monitor.model.jobs import Job, JobFinished, JobLost, StuckJobEnded
 from nagsched_monitor.run.runners import RunnerPools
 from nagsched_monitor.system.poller import FilePoller
+from nagsched_monitor.system.programs import runner_command
 
 from .one_runner import processes_of
 from .waiting import LONG, becomes_true
@@ -119,7 +120,7 @@ class ManyRunners(unittest.TestCase):
             self.runners.start(job)
             self.assertEqual((self.wait(0), id(job) in self.runners.job_ids()), ([], True))
         self.assertEqual([line for line in self.lines if "no room" in line],
-                         ["a runner can't be started: no room: raise the limit of processes, or end some; it is tried again"])
+                         [f"a runner can't be started: {runner_command()[0]}: no room: raise the limit of processes, or end some; it is tried again"])
         self.passed = 20
         self.assertEqual([type(event) for event in self.wait(1)], [JobFinished])
         self.assertEqual(len(self.process_ids()), 2)

@@ -6,27 +6,19 @@ import subprocess
 from typing import List
 from unittest import mock
 
-from nagsched_monitor.faults import SiteFault
+from nagsched_monitor.faults import MonitorFault, SiteFault
 from nagsched_monitor.program.main import main
 from nagsched_monitor.model.objects import Command
 from nagsched_monitor.site import command_lines
 from nagsched_monitor.site.site import read_site
 
-from .simulated import PROGRAM, SiteTest
+from .simulated import PROGRAM, SiteFilesTest
 
 HOST = {"name": "web", "max_check_attempts": 3}
 TRAP = {"host": "web", "description": "trap", "max_check_attempts": 1, "enabled": False}
 
 
-class SiteFiles(SiteTest):
-    def refused(self, *words: str) -> None:
-        """The site is refused, by a line that has all of these."""
-        with self.assertRaises(SiteFault) as caught:
-            read_site(self.folder, PROGRAM)
-        for word in words:
-            self.assertIn(word, str(caught.exception))
-        self.assertNotIn("\n", str(caught.exception))
-
+class SiteFiles(SiteFilesTest):
     def test_what_people_see(self) -> None:
         self.write_site([HOST], [], directory={"host_groups": {"linux": {"alias": "Linux"}}, "contact_groups": {"team": {"members": ["ada"]}},
                                                "contacts": {"ada": {}}},
@@ -220,14 +212,9 @@ class SiteFiles(SiteTest):
         """It accepts the setup, and then writes no line of it; or there is no room for its process."""
         self.write_site([HOST], [])
         program = self.folder / "program"
-        program.write_text("#!/bin/sh\ntest $# = 1\n")
+        program.write_text(f'#!/bin/sh\n[ "$1" = check ] || exec "{PROGRAM}" "$@"\ntest $# = 1\n')
         program.chmod(0o700)
-        with self.assertRaisesRegex(SiteFault, "setup.json: the scheduler gives no answer"):
+        with self.assertRaisesRegex(SiteFault, f"setup.json: {program} gives no answer, and ends with status 1"):
             read_site(self.folder, str(program))
         with mock.patch.object(subprocess, "run", side_effect=BlockingIOError(11, "no room")):
-            self.refused("can't be run: no room")
-
-    def test_no_program(self) -> None:
-        self.write_site([HOST], [])
-        with self.assertRaisesRegex(SiteFault, "there is no program /no/such: put it on the path, or name it with --program"):
-            read_site(self.folder, "/no/such")
+            self.assertRaisesRegex(MonitorFault, "^nagsched can't be run: .*: no room", read_site, self.folder, PROGRAM)

@@ -14,7 +14,8 @@ from nagsched_monitor import faults
 from nagsched_monitor.faults import MonitorFault
 from nagsched_monitor.inputs import client
 from nagsched_monitor.outputs.status_query import StatusUnavailable, clock_time, read_site_status
-from nagsched_monitor.program import main, monitor
+from nagsched_monitor.program import main
+from nagsched_monitor.system import programs
 
 from .running import MONITOR
 from .shown_site import fill_database, standing
@@ -131,20 +132,20 @@ class OwnFiles(SiteTest):
         version = (TOP / "VERSION").read_text().strip()
         self.assertEqual((ran.returncode, ran.stdout, ran.stderr), (0, f"nagsched-monitor {version}\n", ""))
         (self.folder / "lib").mkdir()
-        with mock.patch.object(monitor, "HOME", self.folder / "lib"):
-            self.assertIn("no file VERSION", monitor.own_version())
+        with mock.patch.object(programs, "FOLDER", self.folder / "lib"):
+            self.assertIn(f"no file {self.folder}/lib/VERSION and no {self.folder}/VERSION", programs.own_version())
             (self.folder / "VERSION").write_text("1\n")
-            self.assertEqual(monitor.own_version(), "1")
+            self.assertEqual(programs.own_version(), "1")
             (self.folder / "lib/VERSION").write_text("2\n")
-            self.assertEqual(monitor.own_version(), "2")
+            self.assertEqual(programs.own_version(), "2")
 
     def test_program(self) -> None:
         """The program on the path comes first, then the one next to the monitor, then the one that a checkout has built."""
         built, beside = self.folder / "crates/nagsched/out/nagsched", self.folder / "monitor/nagsched"
 
         def found(path: pathlib.Path) -> str:
-            with mock.patch.dict(os.environ, {"PATH": str(path)}), mock.patch.object(sys, "argv", [str(self.folder / "monitor/nagsched-monitor")]):
-                return os.path.normpath(main.default_program())
+            with mock.patch.dict(os.environ, {"PATH": str(path)}):
+                return programs.scheduler_path(self.folder / "monitor/nagsched-monitor")
 
         beside.parent.mkdir()
         self.assertEqual(found(self.folder), "nagsched")

@@ -9,7 +9,7 @@ import unittest
 from unittest import mock
 
 from nagsched_monitor.faults import ADVICE, MonitorFault, trouble_text
-from nagsched_monitor.system.processes import FOLDER
+from nagsched_monitor.system.programs import FOLDER
 
 
 class Troubles(unittest.TestCase):

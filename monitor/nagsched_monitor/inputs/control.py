@@ -50,9 +50,9 @@ class ControlSocket:
     def __init__(self, folder: pathlib.Path, ask: Callable[[Request], None], poller: FilePoller) -> None:
         self._add_request, self._poller = ask, poller
         self._path = folder / NAME
-        self._path.unlink(missing_ok=True)
         self._socket = socket.socket(socket.AF_UNIX, socket.SOCK_STREAM)
         with raising(MonitorFault, self._path):
+            self._path.unlink(missing_ok=True)
             self._socket.bind(short_path(self._path))
             self._path.chmod(0o600)  # nobody can connect before it listens
         self._socket.listen(socket.SOMAXCONN)

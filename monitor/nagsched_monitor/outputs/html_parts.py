@@ -12,13 +12,14 @@ from ..model.remarks import Remark
 from ..model.text import CONTROLS, first_line, text_of
 from ..site.people_files import Facts, Groups
 from ..store.rows import StoredStanding
+from ..system.programs import read_own_file
 from .status_query import DAY, MARKS
 
 RENEW_EVERY = 15  # how often a page renews itself, in seconds
 LONGEST_TEXT = 200  # the length at which texts in tables are cut
 COLUMNS = ("State", "Host", "Service", "Since", "Attempt", "Last check", "Status information")
 # The colours are those of Okabe and Ito, which colour-blind people can distinguish. Hard problems are filled, and soft ones have a dashed edge.
-STYLE = pathlib.Path(__file__).with_name("page.css").read_text(encoding="utf-8")
+STYLE = read_own_file(pathlib.Path(__file__).with_name("page.css"))
 DIGEST = base64.b64encode(hashlib.sha256(STYLE.encode()).digest()).decode()
 # These headers keep everything out of a page that isn't part of it.
 HEADERS = {

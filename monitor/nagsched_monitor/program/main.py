@@ -6,7 +6,6 @@ import gc
 import json
 import os
 import pathlib
-import shutil
 import sqlite3
 import sys
 import time
@@ -18,7 +17,8 @@ from ..outputs.status_query import StatusUnavailable, clock_time, read_site_stat
 from ..site.site import read_site
 from ..store.store import Store
 from ..system.log import Log
-from .monitor import Monitor, own_version
+from ..system.programs import own_version, scheduler_path
+from .monitor import Monitor
 from .site_reader import LIMIT as READING_LIMIT
 
 # How long a command waits for its answer, in seconds. A reload first reads the site.
@@ -54,19 +54,13 @@ def parse_code(text: str) -> int:
     return code
 
 
-def default_program() -> str:
-    """The program nagsched: on the path, next to the script that was started, or where a checkout builds it."""
-    folder = pathlib.Path(sys.argv[0]).parent
-    built = [place for place in (folder / "nagsched", folder / "../crates/nagsched/out/nagsched") if os.access(place, os.X_OK)]
-    return str(built[0]) if built and shutil.which("nagsched") is None else "nagsched"
-
-
 def parse_arguments(given: Optional[List[str]]) -> argparse.Namespace:
     parser = argparse.ArgumentParser(prog="nagsched-monitor", usage="nagsched-monitor [OPTION ..] DIR [COMMAND ..]",
-                                     description="Monitors a site: it runs plugins, and nagsched decides which is due.")
+                                     description="Monitors a site: it runs plugins, and nagsched decides which is due.",
+                                     formatter_class=argparse.RawDescriptionHelpFormatter)  # it leaves a long version on one line
     parser.add_argument("--version", action="version", version=f"nagsched-monitor {own_version()}", help="print the version and end")
     parser.add_argument("folder", metavar="DIR", type=pathlib.Path, help="the folder of the site")
-    parser.add_argument("--program", default=default_program(), metavar="PATH",
+    parser.add_argument("--program", default=scheduler_path(pathlib.Path(sys.argv[0])), metavar="PATH",
                         help="the program nagsched; without it, on the path, next to this one, or built in this checkout")
     parser.add_argument("--alertmanager", action="append", default=[], metavar="URL", help="post standing problems to this Alertmanager; several may be named")
     parser.add_argument("--on-change", metavar="COMMAND", help="run this for hard changes, with a line of JSON for each on its standard input")

@@ -25,6 +25,7 @@ from ..store.store import Store, drop_changes_before
 from ..system import addresses
 from ..system.poller import FilePoller
 from ..system.processes import HelperProcess
+from ..system.programs import RUNNER, runner_command
 from .loop import Loop
 from .site_reader import read_apart
 
@@ -35,8 +36,6 @@ BUSY_WAIT = 100
 START_TRIES, START_PAUSE = 10, 1.0
 # The files that a plugin needs of its runner, and the other files of a process.
 FILES_OF_PLUGIN, OTHER_FILES = 4, 100
-# The folder of the monitor's package: lib/nagsched of an installation, which has a file VERSION, or a folder of a checkout, which has it one level up.
-HOME = pathlib.Path(__file__).resolve().parents[2]
 
 
 class Monitor:
@@ -50,6 +49,7 @@ class Monitor:
         self._file_limit = raise_file_limit()
         self._poller = FilePoller()
         site = read_site(self._folder, self._program)
+        RUNNER.test(runner_command()[0])
         self._test_slots(site)
         self._outputs = outputs_of(arguments, site.options)
         self.store = Store(self._folder, self.log)
@@ -218,11 +218,6 @@ def outputs_of(arguments: argparse.Namespace, options: Options) -> Options:
     if outputs.page_url is not None and not outputs.page_url.endswith("/"):
         outputs = replace(outputs, page_url=f"{outputs.page_url}/")
     return outputs
-
-
-def own_version() -> str:
-    found = [file for file in (HOME / "VERSION", HOME.parent / "VERSION") if file.is_file()]
-    return found[0].read_text(encoding="utf-8").strip() if found else "of an unknown version: there is no file VERSION"
 
 
 def build_line(program: str) -> str:

@@ -14,7 +14,7 @@ from ..model.jobs import Job, StuckJobEnded, event_members
 from ..system.addresses import parse_address
 from ..system.log import Log
 from ..system.poller import FilePoller
-from ..system.processes import runner_command
+from ..system.programs import RUNNER, runner_command
 from .gearman import BUSY, IDLE, Code, Server, connect
 from .gearman_signing import JOB, RESULT, JobPolicy, Refusal, Signer, read_signer
 from .runners import RunnerPool, raise_file_limit
@@ -113,6 +113,7 @@ class Worker:
 def run(arguments: argparse.Namespace, log: Log) -> None:
     require(1 <= arguments.slots <= MOST_SLOTS, f"--slots: it has to be a number from 1 to {MOST_SLOTS}", MonitorFault)
     place, signer, poller = parse_address(arguments.server, "server"), read_signer(arguments.key, arguments.unsigned), FilePoller()
+    RUNNER.test(runner_command()[0])
     command = [*runner_command(), *([] if arguments.only is None else ["--only", str(arguments.only)])]
     raise_file_limit()
     with raising(MonitorFault, "its runner can't be started", subprocess.SubprocessError):

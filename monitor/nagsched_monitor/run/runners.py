@@ -16,7 +16,8 @@ from ..model.text import plain_text
 from ..site.runner_file import LOCAL, Remote
 from ..system.log import RepeatedLines
 from ..system.poller import FilePoller, write_ready
-from ..system.processes import count_left, end_process, end_session, runner_command
+from ..system.processes import count_left, end_process, end_session
+from ..system.programs import RUNNER, runner_command
 
 READ_BYTES = 65_536
 # The longest line of a runner, in bytes. A longer line ends its runner.
@@ -85,7 +86,9 @@ class RunnerPool:
             self._cannot_start = False
         except OSError as error:
             if not self._cannot_start:
-                self._log(f"{self._title} can't be started: {trouble_text(error)}; it is tried again")
+                program = self._arguments[0]
+                why = RUNNER.trouble(program, error) if self._slots is None else f"{program}: {trouble_text(error)}"
+                self._log(f"{self._title} can't be started: {why}; it is tried again")
             self._cannot_start, self._not_before = True, self._clock() + PAUSE
 
     def start(self, job: Job) -> None:

@@ -12,6 +12,7 @@ from ..faults import MonitorFault, raising, require
 from ..model.objects import MIRROR_FIRST, ObjectKey, Owner, Run, RunTable
 from ..model.protocol import ENCODER, Answer, Call, Report, Reschedule, Take, Taken, object_name
 from ..site.site import Site
+from ..system.programs import SCHEDULER
 
 Member = Dict[str, Any]
 PlannedCall = Tuple[int, Call, Optional[str]]  # a call, its part, and the output of the plugin that it reports
@@ -115,10 +116,11 @@ def carry_over(program: str, site: Site, part: int, state: bytes) -> List[str]:
 
     If the setup or the state is refused, it is a fault, and nothing has changed."""
     given = site.setups[part] + b"\n" + state + b"\n"
-    with raising(MonitorFault, "the saved state can't be tested", subprocess.TimeoutExpired):
+    with raising(MonitorFault, "the saved state can't be tested", subprocess.TimeoutExpired), SCHEDULER.starting(program):
         ran = subprocess.run([program, "check", "--resume"], input=given, stdout=subprocess.PIPE, check=False, timeout=LIMIT)
     lines = ran.stdout.decode(errors="replace").splitlines()
-    require(not ran.returncode, f"the saved state can't be taken over: {'; '.join(lines)}", MonitorFault)
+    why = "; ".join(lines) or f"{program} gives no answer, and ends with status {ran.returncode}"
+    require(not ran.returncode, f"the saved state can't be taken over: {why}", MonitorFault)
     mirrors = site.mirrors.get(part, frozenset())
     return [line for line in lines if is_told_change(line, mirrors)]
 

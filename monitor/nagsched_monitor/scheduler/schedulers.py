@@ -10,13 +10,14 @@ import subprocess
 import time
 from typing import Callable, Deque, List, Optional, Sequence, Tuple, TypeVar
 
-from ..faults import ConversationEnded, NotStored, raising, require
+from ..faults import ConversationEnded, NotStored, require
 from ..model.clock import Clock
 from ..model.protocol import Answer, Call, Refused, call_line, read_answer
 from ..store.rows import Generation, StoredCall
 from ..store.store import Store, insert
 from ..system.poller import write_ready
 from ..system.processes import end_process
+from ..system.programs import SCHEDULER
 
 READ_BYTES = 65_536
 # How long a scheduler may be silent while an answer is due, in seconds: for the first, which follows the setup and the saved state, and for any other.
@@ -38,7 +39,7 @@ AnsweredCall = Tuple[StoredCall, Answer]
 class Conversation:
     def __init__(self, program: str, setup: bytes, start: int, saved: Optional[bytes] = None) -> None:
         words = [program, "live", *([] if saved is None else ["--resume"]), "--start", str(start)]
-        with raising(ConversationEnded, f"{program} can't be started"):
+        with SCHEDULER.starting(program, ConversationEnded):
             # In a session of its own: a Ctrl-C in the terminal is for the monitor, which saves the state before it ends.
             self._process = subprocess.Popen(words, stdin=subprocess.PIPE, stdout=subprocess.PIPE, bufsize=0, start_new_session=True)
         assert self._process.stdin is not None and self._process.stdout is not None
@@ -47,7 +48,7 @@ class Conversation:
         os.set_blocking(self._output, False)
         self._unsent = bytearray(setup + b"\n" + (b"" if saved is None else saved + b"\n"))
         self._unanswered = 0
-        self._patience = OPENING
+        self._program, self._patience = program, OPENING
 
     def ask_lines(self, lines: Sequence[str]) -> List[str]:
         """Sends these lines, a number of them together, and returns the lines that answer them."""
@@ -105,8 +106,10 @@ class Conversation:
     def _read(self, before: Sequence[bytes]) -> bytes:
         part = os.read(self._output, READ_BYTES)
         if not part:
-            words = b"".join(before).decode(errors="replace").rstrip("\n")
-            raise ConversationEnded(f"the scheduler ended with status {end_process(self._process)}: {words}")
+            status, words = end_process(self._process), b"".join(before).decode(errors="replace").rstrip("\n")
+            is_first = not words and self._patience == OPENING
+            why = f"{self._program} answered nothing, and ended with status {status}: {SCHEDULER.advice()}"
+            raise ConversationEnded(why if is_first else f"the scheduler ended with status {status}: {words}")
         self._unanswered -= part.count(b"\n")
         return part
 

@@ -73,8 +73,10 @@ def read_object(folder: pathlib.Path, name: str, forms: Optional[Forms] = None, 
     path = folder / name
     if not required and not path.exists():
         return {}
+    with raising(SiteFault, path):
+        data = path.read_bytes()
     with raising(SiteFault, name, ValueError, RecursionError):
-        return members_of(json.loads(path.read_bytes()), name, forms)
+        return members_of(json.loads(data), name, forms)
 
 
 def members_of(value: object, place: str, forms: Optional[Forms] = None) -> Dict[str, Any]:

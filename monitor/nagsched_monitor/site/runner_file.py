@@ -5,7 +5,7 @@ import re
 from typing import Any, Dict, Iterable, List, Mapping, NamedTuple, Tuple
 
 from ..faults import require
-from ..system.processes import find_program
+from ..system.programs import find_program
 from .json_files import ANY, NAMES, members_of, read_object, seconds, test_members, whole
 from .people_files import Groups
 

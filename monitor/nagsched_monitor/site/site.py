@@ -10,9 +10,10 @@ from concurrent.futures import ThreadPoolExecutor
 from dataclasses import dataclass
 from typing import AbstractSet, Any, Container, Dict, List, Mapping, Optional, Sequence, Tuple
 
-from ..faults import SiteFault, raising, require, trouble_text
+from ..faults import SiteFault, raising, require
 from ..model.objects import ObjectDefinition
 from ..model.remarks import Remark
+from ..system.programs import SCHEDULER
 from .command_lines import read_commands
 from .json_files import (
     ANY, FLAG, MOST_SECONDS, NAMES, TEXT, YEAR, lock_for_reading, members_by_name, members_of, one_of, read_by_name, read_object, seconds, whole,
@@ -72,11 +73,13 @@ class Site:
 
 def read_site(folder: pathlib.Path, program: str) -> Site:
     """The site of a folder. Raises a `SiteFault` that names the file and the error."""
+    SCHEDULER.test(program)
     with lock_for_reading(folder):
         paths = setup_files(folder)
         with ThreadPoolExecutor(os.cpu_count()) as several:
             setups = list(several.map(lambda path: setup_line(path, program), paths))
-        documents = {path.stem: json.loads(setup) for path, setup in zip(paths, setups)}
+        with raising(SiteFault, f"{program} wrote a setup that is no JSON", ValueError):
+            documents = {path.stem: json.loads(setup) for path, setup in zip(paths, setups)}
         mirrors = read_mirrors(folder, documents)
         objects = originals_of(documents, mirrors)
         options = read_options(folder)
@@ -111,19 +114,17 @@ def setup_files(folder: pathlib.Path) -> List[pathlib.Path]:
 
 def setup_line(path: pathlib.Path, program: str) -> bytes:
     """A setup on one line, as the scheduler reads it. A setup that it refuses is a fault, in the scheduler's words."""
-    with raising(SiteFault, path.name):
+    with raising(SiteFault, path):
         setup = path.read_bytes()
-    try:
-        checked = subprocess.run([program, "check", "--line"], input=setup, stdout=subprocess.PIPE, check=False, timeout=LIMIT)
-    except (FileNotFoundError, PermissionError):
-        raise SiteFault(f"there is no program {program}: put it on the path, or name it with --program") from None
-    except OSError as error:
-        raise SiteFault(f"{program} can't be run: {trouble_text(error)}") from None
-    except subprocess.TimeoutExpired:
-        raise SiteFault(f"{path.name}: {program} gives no answer within {LIMIT:g} seconds") from None
+    with SCHEDULER.starting(program):
+        try:
+            checked = subprocess.run([program, "check", "--line"], input=setup, stdout=subprocess.PIPE, check=False, timeout=LIMIT)
+        except subprocess.TimeoutExpired:
+            raise SiteFault(f"{path.name}: {program} gives no answer within {LIMIT:g} seconds") from None
     line = checked.stdout.rstrip(b"\n")
-    if checked.returncode != 0:
-        raise SiteFault(f"{path.name}: {'; '.join(line.decode(errors='replace').splitlines()) or 'the scheduler gives no answer'}")
+    if checked.returncode != 0 or not line:
+        why = "; ".join(line.decode(errors="replace").splitlines()) or f"{program} gives no answer, and ends with status {checked.returncode}"
+        raise SiteFault(f"{path.name}: {why}")
     return line
 
 

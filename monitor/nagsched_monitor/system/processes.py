@@ -1,21 +1,18 @@
-"""The programs of this package: how they are found, and how their processes begin and end."""
+"""The processes of this package: how they begin and end."""
 import contextlib
 import json
 import os
 import pathlib
 import select
-import shutil
 import signal
 import subprocess
 import sys
 import time
 from typing import Callable, Container, Iterator, List, Optional, Tuple
 
-from ..faults import MonitorFault, trouble_text
+from ..faults import trouble_text
+from .programs import FOLDER, INSTALL
 
-# The folder of the package, and the folders of its programs: installed next to the package, or built in the tree.
-FOLDER = pathlib.Path(__file__).resolve().parent.parent.parent
-PROGRAM_FOLDERS = (FOLDER, FOLDER / "out")
 GRACE = 5.0  # the limit for the end of a process, in seconds
 LOOK_AGAIN = 0.005  # the pause between two looks at killed processes, in seconds
 # The least time from one start of a helper to the next, in seconds. It doubles up to the longest. After a process that ran that long, it is the first again.
@@ -25,26 +22,13 @@ SILENCE, READ_BYTES = 120.0, 65_536
 ARGUMENTS = "NAGSCHED_HELPER"  # the variable with a helper's arguments
 
 
-def find_program(name: str) -> Optional[str]:
-    """The path of a program: of this package, or one on the path. None if it isn't found."""
-    beside = [str(place / name) for place in PROGRAM_FOLDERS if "/" not in name and name.startswith("nagsched-") and os.access(place / name, os.X_OK)]
-    return beside[0] if beside else shutil.which(name)
-
-
-def runner_command() -> List[str]:
-    """The command of a runner of this machine: the variable NAGSCHED_RUNNER, or the program that was built. Raises `MonitorFault` if it isn't found."""
-    program = os.environ.get("NAGSCHED_RUNNER") or find_program("nagsched-runner")
-    if program is None:
-        raise MonitorFault(f"there is no {FOLDER}/nagsched-runner: build it with monitor/build_runner.sh, or name one in the variable NAGSCHED_RUNNER")
-    return [program]
-
-
 def module_command(module: str, arguments: List[str]) -> List[str]:
     """The command that runs a module of this package as a process next to the monitor. No variable and no folder of its caller decides what it imports.
 
     The process ignores Ctrl-C and SIGTERM, which are for the monitor."""
-    code = (f"import signal, sys; signal.signal(signal.SIGINT, signal.SIG_IGN); signal.signal(signal.SIGTERM, signal.SIG_IGN); "
-            f"sys.path.insert(0, {str(FOLDER)!r}); import nagsched_monitor.{module} as it; sys.exit(it.main())")
+    code = (f"import signal, sys\nsignal.signal(signal.SIGINT, signal.SIG_IGN); signal.signal(signal.SIGTERM, signal.SIG_IGN); "
+            f"sys.path.insert(0, {str(FOLDER)!r})\ntry: import nagsched_monitor.{module} as it\n"
+            f"except ImportError as error: sys.exit('{{}}, in {{}}: {INSTALL}'.format(error, {str(FOLDER)!r}))\nsys.exit(it.main())")
     return [sys.executable, "-I", "-c", code, *arguments]
 
 
