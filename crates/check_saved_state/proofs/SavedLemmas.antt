@@ -2,11 +2,10 @@
 use Rattle.std.proofs.Common.{◌≡◌, inl, inr, ℕ, zero, suc, ◌+◌, ◌^◌, ◌<◌, ◌≤◌, ◌==◌, ◌&&◌, ◌||◌, bytes_eq, not, Bool, true, false, cond, List, [], ◌∷◌, ◌++◌}
 use Rattle.std.proofs.Common.{map, length, get_or}
 use Rattle.std.proofs.Common.{eq-eqb, Option, Some, None, option_map, subst, Result, Ok, Err, refl, sym, ap, ◌∙◌, arith}
-use Rattle.std.specs.Prelude.{nat_lt, nat_le, ok_or, slice_get}
+use Rattle.std.specs.Prelude.{nat_lt, nat_le, slice_get}
 use Rattle.serde_json.specs.Data.{Data}
-use Rattle.setup_reader.specs.JsonTree.{tree_of}
 use Rattle.check_saved_state.specs.Reading.{draft_in, format_test}
-use Rattle.check_saved_state.specs.Text.{saved_of_text, saved_of_tree}
+use Rattle.check_saved_state.specs.Text.{saved_of_text, saved_of_tree, saved_tree_of}
 use Rattle.std.specs.List.{after_first, before_first, list_all, list_any, position, position_or_len}
 use Rattle.std.proofs.lemmas.Bool.{and_parts, cases_lt, eqb-true, leb-true, not-true, or_parts}
 use Rattle.std.proofs.lemmas.Bool.Decides.{nat_tests}
@@ -287,11 +286,5 @@ tree_by tree saved e =
     next (format_test tree) (λ _. draft_in tree >>= verified_saved) saved (IsSaved saved) (λ u f more.
     next (draft_in tree) verified_saved saved (IsSaved saved) (λ draft d last. verified_by draft saved last) more) e
 
-pub short_by : (b : Bool) (r : Result Saved SavedFault) (saved : Saved) → cond b (Err faults.TooLong) r ≡ Ok saved → r ≡ Ok saved
-short_by true r saved e = cc
-short_by false r saved e = e
-
 pub read_by : (text : List ℕ) (saved : Saved) → saved_of_text text ≡ Ok saved → IsSaved saved
-read_by text saved e =
-    let short = short_by (nat_lt 16777216 (length text)) (ok_or (tree_of text) faults.NotJson >>= saved_of_tree) saved e in
-    next (ok_or (tree_of text) faults.NotJson) saved_of_tree saved (IsSaved saved) (λ tree t more. tree_by tree saved more) short
+read_by text saved e = next (saved_tree_of text) saved_of_tree saved (IsSaved saved) (λ tree t more. tree_by tree saved more) e

@@ -22,7 +22,10 @@ saved_of_tree tree = do
   draft ← draft_in tree
   verified_saved draft
 
+-- the tree of a text, or why it has none
+abbrev pub saved_tree_of : List ℕ → Result Data SavedFault
+saved_tree_of text = if nat_lt 16777216 (length text) then Err faults.TooLong else ok_or (tree_of text) faults.NotJson
+
 -- the saved state in a text, or its first refusal
 abbrev pub saved_of_text : List ℕ → Result Saved SavedFault
-saved_of_text text =
-    if nat_lt 16777216 (length text) then Err faults.TooLong else (ok_or (tree_of text) faults.NotJson >>= saved_of_tree)
+saved_of_text text = saved_tree_of text >>= saved_of_tree

@@ -28,11 +28,14 @@ mod name;
 mod reading;
 mod result_letters;
 mod saved;
-mod table;
+pub mod table;
 mod text;
 mod verification;
 mod words;
 
 pub use fault::SavedFault;
+pub use members::{has_kind, is_known};
+pub use reading::format_of;
 pub use saved::{LONGEST_INTERVAL, MAX_RUNS, MAX_SAVED_BYTES, Saved, SavedObject, SavedRun};
 pub use table::FORMAT;
+pub use text::read_saved_tree;

@@ -34,7 +34,8 @@ fn are_known(format: u64, members: &[Member], object: &Map<String, Value>) -> bo
         .all(|key| is_known(format, members, key.as_str()))
 }
 
-fn is_known(format: u64, members: &[Member], key: &str) -> bool
+/// Whether a text of this format has a member of this name among these.
+pub fn is_known(format: u64, members: &[Member], key: &str) -> bool
     ensures { result ≡
         list_any (λ m. is_in format (as_row m) && bytes_eq m.name.now key.now) members.now }
 {
@@ -56,7 +57,7 @@ pub(crate) fn found_in<'v>(value: &'v Value, member: Member) -> Option<&'v Value
 }
 
 /// Whether a value is of a kind. The members of a run aren't looked at.
-fn has_kind(value: &Value, kind: ValueKind) -> bool
+pub fn has_kind(value: &Value, kind: ValueKind) -> bool
     ensures { result ≡ has_kind kind (view value.now) }
 {
     match kind {

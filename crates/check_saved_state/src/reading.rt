@@ -42,7 +42,8 @@ pub(crate) fn verify_format(tree: &Value) -> Result<(), SavedFault>
     }
 }
 
-fn format_of(tree: &Value) -> Option<u64>
+/// The format that the tree of a saved state names, if it is a whole number.
+pub fn format_of(tree: &Value) -> Option<u64>
     ensures { result ≡ format_in (view tree.now) }
 {
     found_in(tree, DOCUMENT_FORMAT).and_then(Value::as_u64)

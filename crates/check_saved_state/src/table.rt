@@ -10,7 +10,7 @@ pub const FORMAT: u64 = 1;
 
 /// The kind of value that a member must have.
 #[derive(Clone, Copy)]
-pub(crate) enum ValueKind {
+pub enum ValueKind {
     /// A text.
     Text,
     /// A whole number.
@@ -35,7 +35,7 @@ pub(crate) enum ValueKind {
 
 /// The value that stands for a member in a text of an earlier format.
 #[derive(Clone, Copy)]
-pub(crate) enum DefaultValue {
+pub enum DefaultValue {
     /// `null`.
     Nothing,
     /// A list without items.
@@ -50,19 +50,22 @@ pub(crate) enum DefaultValue {
 
 /// How a member was added.
 #[derive(Clone, Copy)]
-pub(crate) struct Addition {
+pub struct Addition {
     /// The first format whose texts have it.
-    pub(crate) since: u64,
-    pub(crate) default: DefaultValue,
+    pub since: u64,
+    /// The value that stands for it in texts of earlier formats.
+    pub default: DefaultValue,
 }
 
 /// A member of one of the objects of a saved state.
 #[derive(Clone, Copy)]
-pub(crate) struct Member {
-    pub(crate) name: &'static str,
-    pub(crate) kind: ValueKind,
+pub struct Member {
+    /// Its name in the object of JSON.
+    pub name: &'static str,
+    /// The kind of its value.
+    pub kind: ValueKind,
     /// None if the first format has it.
-    pub(crate) added: Option<Addition>,
+    pub added: Option<Addition>,
 }
 
 impl DefaultValue {
@@ -151,7 +154,7 @@ impl Member {
     }
 
     /// Whether a text of this format has it.
-    pub(crate) fn is_in(self, format: u64) -> bool
+    pub fn is_in(self, format: u64) -> bool
         ensures { result ≡ is_in format (as_row self) }
     {
         self.default_at(format).is_none()
@@ -181,10 +184,10 @@ pub(crate) const START: Member = required!("start", Number);
 pub(crate) const RUNS: Member = required!("runs", Number);
 
 /// The objects.
-pub(crate) const OBJECTS: Member = required!("objects", List);
+pub const OBJECTS: Member = required!("objects", List);
 
 /// The members of the document.
-pub(crate) static DOCUMENT_MEMBERS: [Member; 4] = [DOCUMENT_FORMAT, START, RUNS, OBJECTS];
+pub static DOCUMENT_MEMBERS: [Member; 4] = [DOCUMENT_FORMAT, START, RUNS, OBJECTS];
 
 // ---- a run
 
@@ -195,12 +198,12 @@ pub(crate) const RUN_NUMBER: Member = required!("number", Number);
 pub(crate) const RUN_START: Member = required!("start", Number);
 
 /// The members of a run.
-pub(crate) static RUN_MEMBERS: [Member; 2] = [RUN_NUMBER, RUN_START];
+pub static RUN_MEMBERS: [Member; 2] = [RUN_NUMBER, RUN_START];
 
 // ---- an object
 
 /// Its full name.
-pub(crate) const NAME: Member = required!("name", Text);
+pub const NAME: Member = required!("name", Text);
 
 /// Its state.
 pub(crate) const STATE: Member = required!("state", State);
@@ -227,7 +230,7 @@ pub(crate) const RESULTS: Member = required!("results", Letters);
 pub(crate) const NEXT_CHECK: Member = required!("next_check", NumberOrNull);
 
 /// Its running check.
-pub(crate) const RUN: Member = required!("run", RunOrNull);
+pub const RUN: Member = required!("run", RunOrNull);
 
 /// Whether its active checks are enabled.
 pub(crate) const ENABLED: Member = required!("enabled", Switch);
@@ -245,7 +248,7 @@ pub(crate) const MAX_CHECK_ATTEMPTS: Member = required!("max_check_attempts", Nu
 pub(crate) const ENABLED_IN_SETUP: Member = required!("enabled_in_setup", Switch);
 
 /// The members of an object.
-pub(crate) static OBJECT_MEMBERS: [Member; 15] = [
+pub static OBJECT_MEMBERS: [Member; 15] = [
     NAME,
     STATE,
     KIND,

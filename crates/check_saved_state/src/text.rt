@@ -14,10 +14,11 @@ use std::alloc::{AllocError, Global};
 
 impl Saved {
     ghost use Rattle.std.specs.Prelude.{◌≡◌, ◌<◌, ◌≤◌, ◌++◌, Err, IfOk, Ok, length};
+    ghost use Rattle.serde_json.specs.View.{view};
     ghost use Rattle.setup_reader.specs.Feeds.{HasNoLineFeed};
     ghost use Rattle.check_saved_state.specs.Saved.{IsSaved};
     ghost use Rattle.check_saved_state.specs.SavedFault.{IsExpectedResult};
-    ghost use Rattle.check_saved_state.specs.Text.{saved_of_text, saved_text};
+    ghost use Rattle.check_saved_state.specs.Text.{saved_of_text, saved_of_tree, saved_text};
 
     /// Writes the saved state in JSON's compact form, without a line feed in it or at its end. The text is
     /// read as the same saved state.
@@ -53,20 +54,42 @@ impl Saved {
         ensures exact { IsExpectedResult (λ saved. saved) result (saved_of_text text.now) }
         ensures too_long { 16777216 < length text.now → result ≡ Err SavedFault.TooLong }
     {
-        if text.len() > MAX_SAVED_BYTES {
-            return Err(SavedFault::TooLong);
-        }
-        let tree = tree_of(alloc, text)?;
-        read_saved(alloc, &tree)
+        let tree = read_saved_tree(alloc, text)?;
+        Saved::read_tree(alloc, &tree)
+    }
+
+    /// Reads a saved state from the tree of its text, which [`read_saved_tree`] reads. An error is the first
+    /// refusal.
+    ///
+    /// `Memory` can come in place of any other result.
+    pub fn read_tree(alloc: Global, tree: &Value) -> Result<Saved, SavedFault>
+        ensures { IsExpectedResult (λ saved. saved) result (saved_of_tree (view tree.now)) }
+    {
+        verify_format(tree)?;
+        let draft = read_draft(alloc, tree)?;
+        saved_of_draft(alloc, &draft)
     }
 }
 
-ghost use Rattle.std.specs.Prelude.{◌≡◌, All, IfOk, ok_or};
+ghost use Rattle.std.specs.Prelude.{◌≡◌, ◌<◌, All, Err, IfOk, length, ok_or};
 ghost use Rattle.serde_json.specs.View.{view};
 ghost use Rattle.setup_reader.specs.JsonTree.{tree_of};
 ghost use Rattle.check_saved_state.specs.SavedFault.{IsExpectedResult};
-ghost use Rattle.check_saved_state.specs.Text.{saved_of_tree};
+ghost use Rattle.check_saved_state.specs.Text.{saved_tree_of};
 ghost use Rattle.check_saved_state.specs.Verification.{HasBoundedAttempts, verified_saved};
+
+/// Reads the tree of the text of a saved state. An error is `TooLong` or `NotJson`.
+///
+/// `Memory` can come in place of any other result except `TooLong`.
+pub fn read_saved_tree(alloc: Global, text: &[u8]) -> Result<Value, SavedFault>
+    ensures exact { IsExpectedResult view result (saved_tree_of text.now) }
+    ensures too_long { 16777216 < length text.now → result ≡ Err SavedFault.TooLong }
+{
+    if text.len() > MAX_SAVED_BYTES {
+        return Err(SavedFault::TooLong);
+    }
+    tree_of(alloc, text)
+}
 
 /// The tree of a text.
 fn tree_of(alloc: Global, text: &[u8]) -> Result<Value, SavedFault>
@@ -77,15 +100,6 @@ fn tree_of(alloc: Global, text: &[u8]) -> Result<Value, SavedFault>
         Err(Fault::Memory) => Err(SavedFault::Memory),
         Err(_) => Err(SavedFault::NotJson),
     }
-}
-
-/// The saved state in a tree.
-fn read_saved(alloc: Global, tree: &Value) -> Result<Saved, SavedFault>
-    ensures { IsExpectedResult (λ saved. saved) result (saved_of_tree (view tree.now)) }
-{
-    verify_format(tree)?;
-    let draft = read_draft(alloc, tree)?;
-    saved_of_draft(alloc, &draft)
 }
 
 fn saved_of_draft(alloc: Global, draft: &SavedDraft<'_>) -> Result<Saved, SavedFault>
