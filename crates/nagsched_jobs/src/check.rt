@@ -1,10 +1,10 @@
 //! A check reads a setup, and a saved state if a scheduler is to start from one. It reports their contents, or
 //! why one of the two is refused.
 
-ghost use Rattle.std.specs.Prelude.{◌≡◌, ◌≤◌, ℕ, List, Ok, IfOk, IfErr, option_map};
+ghost use Rattle.std.specs.Prelude.{◌≡◌, ◌≤◌, ℕ, List, Ok, IfOk, IfErr};
 ghost use Rattle.serde_json.specs.View.{view};
 ghost use Rattle.setup_model.specs.Fault.{view_of};
-ghost use Rattle.setup_diagnostics.specs.Explanation.{tree_or_null};
+ghost use Rattle.setup_diagnostics.specs.Explanation.{tree_in};
 ghost use Rattle.check_objects.specs.Configuration.{Configuration};
 ghost use Rattle.check_objects.specs.Setup.{document_tree};
 ghost use Rattle.nagsched_jobs.specs.Check.{IsFaultReport, IsGood, IsLineReport, IsSummaryReport, IsDocumentReport};
@@ -22,7 +22,7 @@ use nagsched_protocol::{
     DriveError, Ended, InputRefusal, Outcome, Start, print_text, push_refusal,
 };
 use serde_json::Value;
-use setup_diagnostics::{compact_document, explain};
+use setup_diagnostics::{Document, compact_document, explain};
 use setup_summary::{Summary, push_summary};
 use std::alloc::{AllocError, Global};
 use std::io::{Read, Write};
@@ -142,7 +142,7 @@ pub(crate) fn read_with_fault(alloc: Global, document: &[u8]) -> Result<SetupRea
     match read_document(alloc, document) {
         Ok(tree) => read_tree_with_fault(alloc, tree),
         Err(Fault::Memory) => Err(DriveError::Memory),
-        Err(fault) => Ok(SetupReading::Refused(render_refusal(alloc, None, fault)?)),
+        Err(fault) => Ok(SetupReading::Refused(render_refusal(alloc, Document::Bytes(document), fault)?)),
     }
 }
 
@@ -155,7 +155,7 @@ fn read_tree_with_fault(alloc: Global, tree: Value) -> Result<SetupReading, Driv
     match Setup::read_tree_with_fault(alloc, &tree) {
         Ok(setup) => Ok(SetupReading::Good { setup, tree }),
         Err(Fault::Memory) => Err(DriveError::Memory),
-        Err(fault) => Ok(SetupReading::Refused(render_refusal(alloc, Some(&tree), fault)?)),
+        Err(fault) => Ok(SetupReading::Refused(render_refusal(alloc, Document::Tree(&tree), fault)?)),
     }
 }
 
@@ -176,7 +176,7 @@ fn render_tree(alloc: Global, tree: &Value) -> Result<Report, DriveError>
                 outcome: Outcome::Ran,
             })
         }
-        Err(Fault::TooLong) => Ok(render_refusal(alloc, Some(tree), Fault::TooLong)?),
+        Err(Fault::TooLong) => Ok(render_refusal(alloc, Document::Tree(tree), Fault::TooLong)?),
         Err(_) => Err(DriveError::Memory),
     }
 }
@@ -196,13 +196,16 @@ fn render_summary(alloc: Global, start: u64, setup: &Setup) -> Result<Report, Al
     })
 }
 
-/// The line of a refusal, and the line that explains it over the tree, if there is one.
-fn render_refusal(alloc: Global, tree: Option<&Value>, fault: Fault) -> Result<Report, AllocError>
+/// The line of a refusal, and the line that explains it over the document.
+fn render_refusal(
+    alloc: Global,
+    document: Document<'_>,
+    fault: Fault,
+) -> Result<Report, AllocError>
     ensures { IfOk result (λ report.
-        IsFaultReport (tree_or_null (option_map (λ v. view v.now) tree.entry)) (view_of fault)
-        report.text.items report.outcome) }
+        IsFaultReport (tree_in document.entry) (view_of fault) report.text.items report.outcome) }
 {
-    let words = explain(alloc, tree, &fault)?;
+    let words = explain(alloc, document, &fault)?;
     let mut text = String::new(alloc);
     push_refusal(&mut text, InputRefusal::Setup(LoadError::from(fault)))?;
     text.push_str(words.as_str())?;

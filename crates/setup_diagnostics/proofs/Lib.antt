@@ -7,3 +7,4 @@ pub mod LineLemmas
 pub mod NumberLemmas
 pub mod GrowthLemmas
 pub mod KindLemmas
+pub mod JsonLemmas

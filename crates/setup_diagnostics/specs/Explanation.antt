@@ -1,6 +1,7 @@
 -- The explanation of a fault, from the tree of the document that has it.
-use Rattle.std.specs.Prelude.{◌≡◌, ℕ, true, false, Bool, List, ◌++◌, Option, Some, None, codes, decimal}
+use Rattle.std.specs.Prelude.{◌≡◌, ℕ, List, [], ◌++◌, Option, Some, None, codes, decimal}
 use Rattle.serde_json.specs.Data.{Data, null}
+use Rattle.serde_json.specs.View.{view}
 use Rattle.setup_model.specs.declared.fault.Fault as declared
 use Rattle.setup_model.specs.declared.fault.Fault.TheVariants as faults
 use Rattle.setup_model.specs.declared.fault.JsonPosition.{JsonPosition}
@@ -8,14 +9,27 @@ use Rattle.setup_model.specs.Fault as fault
 use Rattle.setup_model.specs.Fault.{Fault}
 use Rattle.setup_diagnostics.specs.Counts.{count_text}
 use Rattle.setup_diagnostics.specs.Cycles.{dependency_cycle_text, parent_cycle_text}
+use Rattle.setup_diagnostics.specs.JsonFaults.{reason_text}
 use Rattle.setup_diagnostics.specs.Names.{bad_name_text, duplicate_text, unknown_end_text, unknown_host_text, unknown_parent_text}
 use Rattle.setup_diagnostics.specs.Ranges.{range_text}
 use Rattle.setup_diagnostics.specs.Shapes.{IsShapeText}
+use Rattle.setup_diagnostics.specs.declared.explanation.Document.{Document}
+use Rattle.setup_diagnostics.specs.declared.explanation.Document.TheVariants as document
 
 -- the tree, or null for a document that wasn't read
 abbrev pub tree_or_null : Option Data → Data
 tree_or_null None = null
 tree_or_null (Some tree) = tree
+
+-- the tree of a document, or null if it has none
+abbrev pub tree_in : Document → Data
+tree_in (document.Tree tree) = view tree.now
+tree_in (document.Bytes bytes) = null
+
+-- the bytes of a document without a tree
+abbrev pub bytes_of : Document → List ℕ
+bytes_of (document.Tree tree) = []
+bytes_of (document.Bytes bytes) = bytes.now
 
 abbrev pub too_long_text : List ℕ
 too_long_text = codes "the document has more than " ++ (decimal 16777216 ++ codes " bytes")
@@ -36,14 +50,10 @@ IsExplanation tree (fault.dependency_cycle p cycle) text = text ≡ dependency_c
 IsExplanation tree (fault.parent_cycle cycle) text = text ≡ parent_cycle_text cycle
 IsExplanation tree fault.memory text = text ≡ codes "memory ran out; that says nothing of the document"
 
-abbrev pub stop_reason_words : Bool → List ℕ
-stop_reason_words true = codes ": the document ends before its JSON does"
-stop_reason_words false = codes ": no JSON can be read on from here"
+-- the position at which reading stops in a document that isn't JSON, and why it stops there
+abbrev pub json_position_text : List ℕ → JsonPosition → List ℕ
+json_position_text bytes u = codes "line " ++ (decimal u.line ++ (codes ", column " ++ (decimal u.column ++ reason_text bytes u)))
 
--- the position at which reading stops in a document that isn't JSON
-abbrev pub json_position_text : JsonPosition → List ℕ
-json_position_text u = codes "line " ++ (decimal u.line ++ (codes ", column " ++ (decimal u.column ++ stop_reason_words u.is_at_end)))
-
-abbrev pub IsNotJsonText : declared.Fault → List ℕ → Type 0
-IsNotJsonText (faults.NotJson u) text = text ≡ json_position_text u
-IsNotJsonText other text = Unit {0}
+abbrev pub IsNotJsonText : List ℕ → declared.Fault → List ℕ → Type 0
+IsNotJsonText bytes (faults.NotJson u) text = text ≡ json_position_text bytes u
+IsNotJsonText bytes other text = Unit {0}

@@ -6,6 +6,7 @@ pub mod Names
 pub mod Ranges
 pub mod Counts
 pub mod Cycles
+pub mod JsonFaults
 pub mod Explanation
 pub mod Numbers
 pub mod Schema

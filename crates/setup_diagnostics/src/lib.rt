@@ -10,6 +10,7 @@
 //! - `line`: a line that never gets a line feed;
 //! - `places`: writes places; `kinds`: writes kinds and values;
 //! - `shapes`, `names`, `ranges`, `counts` and `cycle`: write the faults of each sort;
+//! - `json_faults`: writes what stops the reading of a document that isn't JSON;
 //! - `explanation`: combines them;
 //! - `document_line`: writes the line of a document; `laws`: a law about the numbers in it;
 //! - `schema`: writes the schema; `layout`: gives JSON a layout.
@@ -18,6 +19,7 @@ mod counts;
 mod cycle;
 mod document_line;
 mod explanation;
+mod json_faults;
 mod kinds;
 pub mod laws;
 mod layout;
@@ -29,6 +31,6 @@ mod schema;
 mod shapes;
 
 pub use document_line::compact_document;
-pub use explanation::explain;
+pub use explanation::{Document, explain};
 pub use line::{Line, Pushed};
 pub use schema::json_schema;
