@@ -159,9 +159,10 @@ def rows_of(program: str, input_: Input) -> Tuple[List[Row], Set[str]]:
     """The rows of an input in all forms, and the codes of its refusals."""
     run_json, as_json = (output_of(program, input_, word, "--json") for word in ("run", "live"))
     run, live, explained = (output_of(program, input_.without_ids(), *words) for words in (("run",), ("live",), ("live", "--explain")))
+    codes = set(re.findall(r"^refused ([LKSC]\d+)\b", live.text, re.M))
     try:
         answers = answers_of(as_json.text)
-        codes = {str(answer["code"]) for answer in answers if is_refusal(answer)}
+        codes |= {str(answer["code"]) for answer in answers if is_refusal(answer)}
         lines = with_sentences(explained.text)
         rows: List[Row] = [
             ("live --json in words", live.text, text_in_words(answers)),
@@ -172,7 +173,7 @@ def rows_of(program: str, input_: Input) -> Tuple[List[Row], Set[str]]:
             ("explanations", [answer.get("explanation") for answer in answers], [why for line, why in lines if not line.startswith("object ")]),
             *run_rows(run, run_json, answers)]
     except (ValueError, KeyError) as error:
-        return [("the answers as JSON", None, f"{type(error).__name__}: {error}")], set()
+        return [("the answers as JSON", None, f"{type(error).__name__}: {error}")], codes
     return rows, codes
 
 
