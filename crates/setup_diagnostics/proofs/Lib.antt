@@ -7,3 +7,5 @@ pub mod LineLemmas
 pub mod NumberLemmas
 pub mod GrowthLemmas
 pub mod KindLemmas
+pub mod SavedKeyLemmas
+pub mod SavedShapeLemmas
