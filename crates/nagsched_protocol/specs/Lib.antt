@@ -17,6 +17,7 @@ pub mod Agreement
 pub mod Start
 pub mod Text
 pub mod Explanation
+pub mod Notes
 pub mod JsonText
 pub mod Forms
 pub mod LiveText
