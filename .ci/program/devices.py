@@ -150,7 +150,8 @@ def jobs() -> Iterator[Job]:
     setup = b'nagsched: line 1: the setup is refused; give this line to "nagsched check" to see why\n'
     yield case_job("rows/first-path/duplicate-host")._replace(note=setup)
     yield case_job("rows/drill/one-worker")
-    yield case_job("rows/drill/plugin-without-codes")
+    codes = b'nagsched: line 2: the number of values of "plugin" is 1; it has to be at least 2\n'
+    yield case_job("rows/drill/plugin-without-codes")._replace(note=codes)
     yield case_job("checks/a-line")
     yield case_job("checks/a-refused-setup")
     yield case_job("changes/the-same-setup")

@@ -276,9 +276,23 @@ def explained_runs(harness):
         members = json.loads(text)
         harness.compare(f"run --json: {what}", (line.split(" ")[:2], sentence, *wanted[1:]),
                         ([members["code"], members["reason"]], members["explanation"], said, status))
-    silent = [(["live"], SERVICE + b"[]\n", 0), (["live"], b"{}}\n", 1), (["live", "--json"], b"{}}\n", 1), (["check"], b"{}}\n", 1), (["drill"], b"{}}\n", 1)]
+    silent = [(["live"], SERVICE + b"[]\n", 0), (["live"], b"{}}\n", 1), (["live", "--json"], b"{}}\n", 1), (["check"], b"{}}\n", 1)]
+    silent.append((["drill"], SERVICE + b'["moment",0]\n', 0))
     for arguments, given, status in [*((arguments, SERVICE + TAKE, 0) for arguments in ([], ["run"], ["run", "--json"])), *silent]:
         harness.compare(f"{arguments}: nothing on standard error", (b"", status), streams_of(harness, arguments, given)[1:])
+
+
+def explained_drills(harness):
+    """A drill does the same."""
+    for what, given, line, sentence in [
+        ("a refused setup", b"{}}\n", "L1 NotJson", 'line 1: the setup is refused; give this line to "nagsched check" to see why'),
+        ("a command of a run", SERVICE + TAKE, "S3 Shape 2", 'line 2: the name of the command is "take"; it has to be "plugin" or "moment"'),
+        ("a code", SERVICE + b'\n["plugin","h",0,4]\n[]\n', "S4 Code 3", 'line 3: value 3 of "plugin" is 4; it has to be a whole number from 0 to 3'),
+        ("no codes", SERVICE + b'["plugin","h"]\n', "S3 Shape 2", 'line 2: the number of values of "plugin" is 1; it has to be at least 2'),
+        ("an input that is too long", SERVICE + b"\n" * WHOLE_INPUT, "S1 TooLong 0", "the input has more than 67108864 bytes"),
+    ]:
+        wanted = f"refused {line}\n".encode(), f"nagsched: {sentence}\n".encode(), 1
+        harness.compare(f"drill: {what}", wanted, streams_of(harness, ["drill"], given))
 
 
 def explained_cases(harness):
@@ -399,7 +413,7 @@ def terminals(harness):
 
 
 harness = Harness("session")
-EXPLANATIONS = explained_words, explained_runs, explained_cases, explained_devices
+EXPLANATIONS = explained_words, explained_runs, explained_drills, explained_cases, explained_devices
 for part in (helps, versions, schema, refused_words, *EXPLANATIONS, faults, faults_of_conversations, three_workers, long_documents, writes, terminals):
     part(harness)
 harness.end()

@@ -35,8 +35,8 @@ fn main(rt: HostRuntime) -> ExitCode {
 
 /// The session for the program's arguments, from standard input to standard output. Writes are
 /// gathered, and flushed once at the end. `live` also flushes before it reads again. Arguments that aren't
-/// text are refused. Standard error says in one sentence why arguments or the input of `run` are refused,
-/// and which stream failed.
+/// text are refused. Standard error says in one sentence why arguments or the input of `run` or `drill` are
+/// refused, and which stream failed.
 fn run_program<R: Env + Files + Input + Print + Eprint + AllocGlobal + Threads + Wait + Sync>(
     rt: &R,
 ) -> u8 {

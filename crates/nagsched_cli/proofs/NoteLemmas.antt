@@ -11,7 +11,8 @@ use Rattle.nagsched_protocol.specs.declared.drive_error.DriveError.TheVariants a
 use Rattle.nagsched_protocol.specs.declared.outcome.Outcome.{Outcome}
 use Rattle.nagsched_protocol.specs.declared.start.Start.{Start}
 use Rattle.nagsched_protocol.specs.Streams.{Streams, streams}
-use Rattle.nagsched_run.specs.Drive.{IsNote, RunEnded, run_note}
+use Rattle.nagsched_protocol.specs.Notes.{IsNote}
+use Rattle.nagsched_run.specs.Drive.{RunEnded, run_note}
 use Rattle.nagsched_cli.specs.Arguments.{Explains}
 use Rattle.nagsched_cli.specs.Session.{IsSilent, IsWordsOutput, RunNoted, SessionEnds}
 use Rattle.nagsched_cli.specs.declared.arguments.WordsError.{WordsError}

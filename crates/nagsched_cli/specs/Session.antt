@@ -19,7 +19,7 @@ use Rattle.nagsched_cli.specs.declared.arguments.WordsError.{WordsError}
 use Rattle.nagsched_cli.specs.declared.arguments.WordsError.TheVariants as words_error
 use Rattle.nagsched_jobs.specs.CheckEnded.{CheckEnded, IsSetupLineReport, IsReportFrom}
 use Rattle.nagsched_jobs.specs.Reading.{check_input_of, document_input_of}
-use Rattle.nagsched_jobs.specs.Drill.{DrillEnded}
+use Rattle.nagsched_jobs.specs.Drill.{DrillEnded, drill_note}
 use Rattle.nagsched_run.specs.Drive.{RunEnded, run_note}
 use Rattle.nagsched_run.specs.JsonRun.{JsonRunEnded, json_run_note}
 use Rattle.nagsched_run.specs.Live.{ConversationEnded}
@@ -48,17 +48,21 @@ abbrev pub RunNoted : AnswerForm → Start → Result Outcome DriveError → Str
 RunNoted forms.Json how ended io noted = (run : JsonRunEnded how ended io) × OnOk ended (noted ≡ json_run_note how run.input)
 RunNoted form how ended io noted = (run : RunEnded how ended io) × OnOk ended (noted ≡ run_note how run.input)
 
+-- the same of a drill
+abbrev pub DrillNoted : ℕ → ℕ → ℕ → Result Outcome DriveError → Streams → List ℕ → Type 0
+DrillNoted start workers room ended io noted = (drill : DrillEnded start workers room ended io) × OnOk ended (noted ≡ drill_note drill.input)
+
 -- nothing was noted, unless an error ended the job
 abbrev pub IsSilent : Result Outcome DriveError → List ℕ → Type 0
 IsSilent ended noted = OnOk ended (noted ≡ [])
 
--- The effects of a job that ended like this, with or without a fault, and what it noted. The function of the job states them. Only a run has a note.
+-- The effects of a job that ended like this, with or without a fault, and what it noted. The function of the job states them. Only a run and a drill have a note.
 abbrev pub JobEnded : Job → Result Outcome DriveError → Streams → List ℕ → Type 0
 JobEnded (job.Run how form) ended io noted = RunNoted form how ended io noted
 JobEnded (job.Live how form) ended io noted = ConversationEnded form how ended io × IsSilent ended noted
 JobEnded (job.Check how) ended io noted = CheckEnded (IsReportFrom how) (check_input_of how) ended io × IsSilent ended noted
 JobEnded job.SetupLine ended io noted = CheckEnded IsSetupLineReport document_input_of ended io × IsSilent ended noted
-JobEnded (job.Drill start workers room) ended io noted = DrillEnded start workers room ended io × IsSilent ended noted
+JobEnded (job.Drill start workers room) ended io noted = DrillNoted start workers room ended io noted
 JobEnded job.Schema ended io noted = SchemaEnded ended io × IsSilent ended noted
 
 -- arguments in which `clap` finds no fault, and which ask for this job

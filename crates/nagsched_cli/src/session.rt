@@ -3,10 +3,10 @@
 ghost use Rattle.std.specs.Prelude.{◌≡◌, ℕ, List, codes, OnOk, OnErr, IsOkUnless};
 ghost use Rattle.std.specs.Io.KnownBytes.{Appends};
 ghost use Rattle.clap.specs.Walk.{texts};
+ghost use Rattle.nagsched_protocol.specs.Notes.{IsNote};
 ghost use Rattle.nagsched_protocol.specs.Output.{WroteFront};
 ghost use Rattle.nagsched_protocol.specs.Start.{CanStart};
 ghost use Rattle.nagsched_protocol.specs.Streams.{streams};
-ghost use Rattle.nagsched_run.specs.Drive.{IsNote};
 ghost use Rattle.nagsched_cli.specs.Session.{exit_status, SessionEnds, JobEnded, RunNoted, IsSchemaOutput, IsJobTextOutput, IsWordsOutput};
 ghost use Rattle.nagsched_cli.specs.Arguments.{IsWithinLimits};
 
@@ -45,7 +45,7 @@ pub enum Ending {
 /// `write_setup_line` or `drill` says about that error. Without a job, and if the job is the schema, the
 /// reader is as it was, and the writer has got nothing or a prefix of the text.
 ///
-/// If a run refuses its input, `note` gets the sentence that explains why.
+/// If a run or a drill refuses its input, `note` gets the sentence that explains why.
 ///
 /// `rt` is the machine that starts threads and waits, which only a drill uses.
 pub fn session<H: Threads + Wait + Sync, R: Read, W: Write>(
@@ -70,7 +70,7 @@ pub fn session<H: Threads + Wait + Sync, R: Read, W: Write>(
     }
 }
 
-/// Does a job. A run that refuses its input notes why.
+/// Does a job. A run or a drill that refuses its input notes why.
 fn do_job<H: Threads + Wait + Sync, R: Read, W: Write>(
     rt: &H,
     alloc: Global,
@@ -94,7 +94,7 @@ fn do_job<H: Threads + Wait + Sync, R: Read, W: Write>(
             start,
             workers,
             room,
-        } => drill(rt, alloc, start, workers, room, reader, writer),
+        } => drill(rt, alloc, start, workers, room, reader, writer, note),
         Job::Schema => print_schema(alloc, writer),
     }
 }

@@ -8,9 +8,8 @@ use Rattle.nagsched_protocol.proofs.ReadLemmas.{input_of, input_of-says, is_too_
 use Rattle.setup_model.specs.declared.error.LoadError.{LoadError}
 use Rattle.check_objects.specs.Configuration.{Configuration}
 use Rattle.check_objects.specs.Setup.{setup_of}
-use Rattle.check_saved_state.specs.Text.{saved_of_text}
 use Rattle.nagsched_jobs.specs.Check.{IsRefusalReport}
-use Rattle.nagsched_jobs.specs.CheckResumed.{IsSetupAndSavedReport, IsTwoLinesReport, IsResumedReport, IsSavedReport, two_lines_of}
+use Rattle.nagsched_jobs.specs.CheckResumed.{IsSetupAndSavedReport, IsTwoLinesReport, IsResumedReport, IsSavedTextReport, two_lines_of}
 
 two_long : (bytes : List ℕ) → MAX_INPUT_BYTES < length bytes → two_lines_of bytes ≡ None
 two_long bytes h = rw (is_too_long bytes h) refl
@@ -23,7 +22,7 @@ resumed_told_of start had read text report all h =
 
 -- what is told of a good setup, and of a refused one
 pub both_good : (start : Option ℕ) (document text : List ℕ) (c : Configuration) (printed : List ℕ) (report : Outcome) → setup_of document ≡ Ok c
-    → IsSavedReport start c (saved_of_text text) printed report → IsSetupAndSavedReport start document text printed report
+    → IsSavedTextReport start c text printed report → IsSetupAndSavedReport start document text printed report
 both_good start document text c printed report good h = rw good h
 
 pub both_refused : (start : Option ℕ) (document text printed : List ℕ) (report : Outcome)

@@ -1,6 +1,7 @@
 -- A whole drill, and what its faults leave.
-use Rattle.std.proofs.Common.{◌≡◌, ◌≢◌, ℕ, List, [], take, Option, Some, None, Result, Ok, Err, refl, ap, ◌∙◌, inl, inr, ◌⊎◌}
-use Rattle.std.specs.Prelude.{IfSome}
+use Rattle.std.proofs.Common.{◌≡◌, ◌≢◌, ℕ, List, [], ◌++◌, take, Option, Some, None, Result, Ok, Err, refl, ap, ◌∙◌, inl, inr, ◌⊎◌, String}
+use Rattle.std.specs.Prelude.{IfSome, IsErrAnd, string_bytes}
+use Rattle.std.specs.declared.alloc.Global.{Global}
 use Rattle.std.specs.Io.KnownBytes.{Keeps, Consumes}
 use Rattle.ticket_steps.specs.declared.books.Entry.{Entry}
 use Rattle.check_sched.specs.declared.call.Call.{Call}
@@ -9,13 +10,22 @@ use Rattle.nagsched_protocol.specs.declared.input.TheConstants.{MAX_READ_BYTES}
 use Rattle.nagsched_protocol.specs.declared.drive_error.DriveError.{DriveError}
 use Rattle.nagsched_protocol.specs.declared.drive_error.DriveError.TheVariants as errors
 use Rattle.nagsched_protocol.specs.declared.outcome.Outcome.{Outcome}
-use Rattle.nagsched_jobs.specs.Drill.{DrillEnded, IsDrill, IsDrillWritten, IsTextOf, LeavesDrill, WroteDrill, WroteDrillFront, WroteDrillShort, drill_outcome}
+use Rattle.nagsched_jobs.specs.Drill.{DrillEnded, IsDrill, IsDrillWritten, IsTextOf, LeavesDrill, WroteDrill, WroteDrillFront, WroteDrillShort, drill_note, drill_outcome}
 use Rattle.nagsched_protocol.specs.DrillScript.{DrillScript, drill_script_of}
+use Rattle.setup_model.specs.Agreement.{IsExpectedError}
+use Rattle.nagsched_protocol.specs.declared.answer_form.AnswerForm.TheVariants as forms
 use Rattle.nagsched_protocol.specs.declared.refusal.InputRefusal.{InputRefusal}
+use Rattle.nagsched_protocol.specs.declared.refusal.ScriptError.{ScriptError}
+use Rattle.nagsched_protocol.specs.declared.refusal.ScriptError.TheVariants as script_errors
+use Rattle.nagsched_protocol.specs.Agreement.{refusal}
+use Rattle.nagsched_protocol.specs.Forms.{refusal_text}
+use Rattle.nagsched_protocol.specs.Notes.{IsNote}
+use Rattle.nagsched_protocol.specs.Script.{refused_bytes}
 use Rattle.nagsched_protocol.specs.Streams.{HasRead, outcome_by, streams}
 use Rattle.nagsched_protocol.specs.Text.{drill_text, refusal_line}
-use Rattle.nagsched_protocol.specs.Written.{IsTextWritten}
-use Rattle.nagsched_protocol.proofs.ReadLemmas.{drill_script_take, has_read, input_of, input_of-is}
+use Rattle.nagsched_protocol.specs.Written.{IsLineWritten, IsTextWritten}
+use Rattle.nagsched_protocol.proofs.NoteLemmas.{line_text, note_of_read}
+use Rattle.nagsched_protocol.proofs.ReadLemmas.{IsOfRead, drill_script_take, has_read, input_of, input_of-is, input_of-says, limit_tells}
 use Rattle.nagsched_protocol.proofs.WrittenLemmas.{Keeps-same}
 use Rattle.nagsched_protocol.proofs.OutputLemmas.{Appends-Keeps, front_all}
 
@@ -52,7 +62,26 @@ pub wrote_none : (e : DriveError) (start workers room : ℕ) (input : List ℕ) 
 wrote_none e start workers room input held is =
     rw is (record { written = tt; front = inl (Keeps-same held); kind = λ q. cc; short = λ q. inl (Keeps-same held) })
 
+none_by : (r : Result Outcome DriveError) (start workers room : ℕ) (input : List ℕ) (held holds : Option (List ℕ))
+    → IsErrAnd r (λ e. e ≡ errors.Memory) × (holds ≡ held) → IsDrillWritten start workers room input r held holds
+none_by (Ok x) start workers room input held holds h = absurd h.0
+none_by (Err e) start workers room input held holds h = rw h.1 (wrote_none e start workers room input held h.0)
+
+-- a refusal was written
+pub refused_drill : (error : ScriptError) (start workers room : ℕ) (input : List ℕ) (r : Result Outcome DriveError) (held holds : Option (List ℕ))
+    → IsExpectedError (refusal error) (drill_script_of input)
+    → IfSome (refusal error) (λ why. IsLineWritten r held holds (refusal_text forms.Words (refused_bytes input why) why))
+    → (refusal error ≡ None → IsErrAnd r (λ e. e ≡ errors.Memory) × (holds ≡ held)) → IsDrillWritten start workers room input r held holds
+refused_drill script_errors.Memory start workers room input r held holds is wrote memory = none_by r start workers room input held holds (memory refl)
+refused_drill (script_errors.Refused why) start workers room input r held holds is wrote memory =
+    wrote_drill r start workers room input (refusal_line why) held holds (refusal_of_drill start workers room input why is)
+    (line_text r held holds (refusal_line why) wrote)
+
 -- ---- the input of a drill, whatever is known of its reader
+
+drill_note_take : IsOfRead drill_note
+unfolding drill_note drill_script_of
+drill_note_take = note_of_read drill_script_of (limit_tells _)
 
 left_of : (had left : Option (List ℕ)) (read : List ℕ) → IfSome had (λ bytes. read ≡ take MAX_READ_BYTES bytes) → Consumes had left read
     → IfSome had (HasRead had left)
@@ -128,7 +157,7 @@ module _ (start workers room : ℕ) (had left held : Option (List ℕ)) (read : 
       rw is (ended_by errors.Write holds (front_left holds (inr front)))
 
   -- it came to its end
-  pub flushed_drill : (given : Outcome) (mid holds : Option (List ℕ)) → WroteDrill start workers room read held mid → Keeps mid holds
+  abbrev pub flushed_drill : (given : Outcome) (mid holds : Option (List ℕ)) → WroteDrill start workers room read held mid → Keeps mid holds
       → given ≡ drill_outcome read → DrillEnded start workers room (Ok given) (streams had left held holds)
   flushed_drill given mid holds w kept is = record {
     input = input_of had read;
@@ -142,3 +171,12 @@ module _ (start workers room : ℕ) (had left held : Option (List ℕ)) (read : 
     read = left_of had left read all consumed;
     fault = tt;
   }
+
+  -- the same with the note
+  pub noted_drill : (given : Outcome) (mid holds : Option (List ℕ)) (before after : String Global) → WroteDrill start workers room read held mid
+      → Keeps mid holds → given ≡ drill_outcome read → IsNote before after (drill_note read)
+      → (drill : DrillEnded start workers room (Ok given) (streams had left held holds)) × IsNote before after (drill_note drill.input)
+  noted_drill given mid holds before after w kept is noted = (
+    flushed_drill given mid holds w kept is,
+    noted ∙ ap (λ l. string_bytes before ++ l) (input_of-says drill_note drill_note_take had read all),
+  )

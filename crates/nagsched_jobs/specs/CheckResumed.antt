@@ -1,10 +1,15 @@
 -- The text that a check prints for a setup and a saved state.
-use Rattle.std.specs.Prelude.{ℕ, ◌≡◌, List, ◌++◌, codes, length, nat_lt, unwrap_or, Option, Some, None, Result, Ok, Err, if◌then◌else◌}
-use Rattle.setup_summary.specs.ChangeText.{changes_text, saved_explanation}
+use Rattle.std.specs.Prelude.{ℕ, ◌≡◌, List, [], ◌∷◌, ◌++◌, codes, length, nat_lt, unwrap_or, Option, Some, None, Result, Ok, Err, if◌then◌else◌}
+use Rattle.std.specs.Result.{result_ok}
+use Rattle.setup_summary.specs.ChangeText.{changes_text}
+use Rattle.setup_diagnostics.specs.Explanation.{tree_or_null}
+use Rattle.setup_diagnostics.specs.Feeds.{HasNoLineFeed}
+use Rattle.setup_diagnostics.specs.SavedExplanation.{IsSavedExplanation}
+use Rattle.serde_json.specs.Data.{Data}
 use Rattle.check_objects.specs.Configuration.{Configuration}
 use Rattle.check_objects.specs.Setup.{setup_of}
 use Rattle.check_saved_state.specs.Saved.{Saved}
-use Rattle.check_saved_state.specs.Text.{saved_of_text}
+use Rattle.check_saved_state.specs.Text.{saved_of_text, saved_tree_of}
 use Rattle.check_saved_state.specs.declared.fault.SavedFault.{SavedFault}
 use Rattle.nagsched_protocol.specs.declared.refusal.InputRefusal.TheVariants as refusal
 use Rattle.nagsched_protocol.specs.declared.refusal.LineFault.TheVariants as line_fault
@@ -18,17 +23,23 @@ use Rattle.nagsched_protocol.specs.declared.outcome.Outcome.{Outcome}
 use Rattle.nagsched_protocol.specs.declared.outcome.Outcome.TheVariants as outcome
 use Rattle.nagsched_jobs.specs.Check.{IsReportBy}
 
--- The text for a good setup and a saved state. For a good saved state it is the figures of the setup, and what becomes of the objects. The first checks
--- in the figures are those of a scheduler that starts at this moment, or at the saved start. For a refused saved state it is the line of a run, and one
--- line more, which explains the fault.
-abbrev pub IsSavedReport : Option ℕ → Configuration → Result Saved SavedFault → List ℕ → Outcome → Type 0
-IsSavedReport start c (Ok saved) text ended =
+-- The text for a good setup and a saved state with this tree. For a good saved state it is the figures of the setup, and what becomes of the objects.
+-- The first checks in the figures are those of a scheduler that starts at this moment, or at the saved start. For a refused saved state it is the line
+-- of a run, and one line more, which explains the fault over the tree; null where there is none.
+abbrev pub IsSavedReport : Option ℕ → Configuration → Data → Result Saved SavedFault → List ℕ → Outcome → Type 0
+IsSavedReport start c tree (Ok saved) text ended =
     (text ≡ summary_text (summary_of c (unwrap_or start saved.start)) ++ changes_text c saved) × (ended ≡ outcome.Ran)
-IsSavedReport start c (Err e) text ended = (text ≡ refusal_line (refusal.Saved e) ++ saved_explanation e) × (ended ≡ outcome.Refused)
+IsSavedReport start c tree (Err e) text ended =
+    ((words : List ℕ) × HasNoLineFeed words × IsSavedExplanation tree e words × (text ≡ refusal_line (refusal.Saved e) ++ (words ++ 10 ∷ [])))
+    × (ended ≡ outcome.Refused)
+
+-- the same for a saved state with this text
+abbrev pub IsSavedTextReport : Option ℕ → Configuration → List ℕ → List ℕ → Outcome → Type 0
+IsSavedTextReport start c text = IsSavedReport start c (tree_or_null (result_ok (saved_tree_of text))) (saved_of_text text)
 
 -- the text for a setup document and the text of a saved state: the setup is tested first
 abbrev pub IsSetupAndSavedReport : Option ℕ → List ℕ → List ℕ → List ℕ → Outcome → Type 0
-IsSetupAndSavedReport start document text = IsReportBy (λ c. IsSavedReport start c (saved_of_text text)) document (setup_of document)
+IsSetupAndSavedReport start document text = IsReportBy (λ c. IsSavedTextReport start c text) document (setup_of document)
 
 -- Line 1 is the setup document, and line 2 the text of the saved state, if the input isn't longer than that of a run may be. A missing line counts as
 -- an empty one. A check ignores the bytes after the two lines.

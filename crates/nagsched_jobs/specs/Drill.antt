@@ -15,6 +15,7 @@ use Rattle.nagsched_protocol.specs.declared.drive_error.DriveError.TheVariants a
 use Rattle.nagsched_protocol.specs.declared.outcome.Outcome.{Outcome}
 use Rattle.nagsched_protocol.specs.declared.refusal.InputRefusal.{InputRefusal}
 use Rattle.nagsched_protocol.specs.DrillScript.{DrillScript, drill_script_of}
+use Rattle.nagsched_protocol.specs.Notes.{note_of}
 use Rattle.nagsched_protocol.specs.Streams.{HasRead, IsInput, outcome_by}
 use Rattle.nagsched_protocol.specs.Streams.{Streams}
 use Rattle.nagsched_protocol.specs.Output.{WroteFront, WroteLinesUpTo}
@@ -76,6 +77,10 @@ IsTextOf start workers room input text = IsTextBy start workers room (drill_scri
 -- whether a drill on the input lets workers work or refuses it
 abbrev pub drill_outcome : List ℕ → Outcome
 drill_outcome input = outcome_by (drill_script_of input)
+
+-- what a drill on the input notes
+unfoldable pub drill_note : List ℕ → List ℕ
+drill_note input = note_of input (drill_script_of input)
 
 -- such a text was written, whole
 pub record WroteDrill (start workers room : ℕ) (input : List ℕ) (held holds : Option (List ℕ)) : Type 0 where

@@ -1,20 +1,25 @@
 //! The report of a check on a setup and a saved state: the figures of the setup and what happens to the saved
 //! objects over it, or why one of the two is refused.
 
-ghost use Rattle.std.specs.Prelude.{◌≡◌, ◌≤◌, ℕ, Option, Ok, Err, IfOk, IfErr, IfSome};
+ghost use Rattle.std.specs.Prelude.{◌≡◌, ◌≤◌, ℕ, Option, Ok, Err, IfOk, IfErr, IfSome, option_map};
 ghost use Rattle.check_objects.specs.Configuration.{Configuration};
-ghost use Rattle.check_saved_state.specs.Text.{saved_of_text};
-ghost use Rattle.nagsched_jobs.specs.CheckResumed.{IsSetupAndSavedReport, IsLengthReport, IsResumedReport, IsSavedReport};
+ghost use Rattle.check_saved_state.specs.Text.{saved_of_tree};
+ghost use Rattle.serde_json.specs.Data.{Data};
+ghost use Rattle.serde_json.specs.View.{view};
+ghost use Rattle.setup_diagnostics.specs.Explanation.{tree_or_null};
+ghost use Rattle.nagsched_jobs.specs.CheckResumed.{IsSetupAndSavedReport, IsLengthReport, IsResumedReport, IsSavedReport, IsSavedTextReport};
 
 use crate::check::{Report, SetupReading, read_with_fault};
 use check_objects::Setup;
-use check_saved_state::{Saved, SavedFault};
+use check_saved_state::{Saved, SavedFault, read_saved_tree};
 use check_sched::LAST_MOMENT;
 use nagsched_protocol::{
     DriveError, InputRefusal, LineFault, MAX_INPUT_BYTES, Outcome, moment_of, push_refusal,
     split_line,
 };
-use setup_summary::{Summary, push_changes, push_explanation, push_summary};
+use serde_json::Value;
+use setup_diagnostics::explain_saved;
+use setup_summary::{Summary, push_changes, push_summary};
 use std::alloc::{AllocError, Global};
 
 /// The report on the input of a run that starts from a saved state, at the moment `start` in milliseconds, or
@@ -83,13 +88,32 @@ fn render_saved(
 ) -> Result<Report, DriveError>
     requires { IfSome start (λ moment. moment ≤ LAST_MOMENT) }
     ensures report { IfOk result (λ report.
-        IsSavedReport start setup.now (saved_of_text text.now) report.text.items report.outcome) }
+        IsSavedTextReport start setup.now text.now report.text.items report.outcome) }
     ensures kind { IfErr result (λ e. e ≡ DriveError.Memory) }
 {
-    match Saved::read(alloc, text) {
+    match read_saved_tree(alloc, text) {
+        Ok(tree) => render_saved_tree(alloc, start, setup, &tree),
+        Err(SavedFault::Memory) => Err(DriveError::Memory),
+        Err(fault) => Ok(render_saved_fault(alloc, None, fault)?),
+    }
+}
+
+/// The report on the tree of a saved state over a setup. An Err is `Memory`.
+fn render_saved_tree(
+    alloc: Global,
+    start: Option<u64>,
+    setup: &Setup,
+    tree: &Value,
+) -> Result<Report, DriveError>
+    requires { IfSome start (λ moment. moment ≤ LAST_MOMENT) }
+    ensures report { IfOk result (λ report. IsSavedReport start setup.now (view tree.now)
+        (saved_of_tree (view tree.now)) report.text.items report.outcome) }
+    ensures kind { IfErr result (λ e. e ≡ DriveError.Memory) }
+{
+    match Saved::read_tree(alloc, tree) {
         Ok(saved) => Ok(render_changes(alloc, start, setup, &saved)?),
         Err(SavedFault::Memory) => Err(DriveError::Memory),
-        Err(fault) => Ok(render_saved_fault(alloc, fault)?),
+        Err(fault) => Ok(render_saved_fault(alloc, Some(tree), fault)?),
     }
 }
 
@@ -101,8 +125,8 @@ fn render_changes(
     saved: &Saved,
 ) -> Result<Report, AllocError>
     requires { IfSome start (λ moment. moment ≤ LAST_MOMENT) }
-    ensures { IfOk result (λ report.
-        IsSavedReport start setup.now (Ok saved.now) report.text.items report.outcome) }
+    ensures { IfOk result (λ report. (tree : Data)
+        → IsSavedReport start setup.now tree (Ok saved.now) report.text.items report.outcome) }
 {
     let summary = Summary::of(alloc, setup, moment_of(start, saved))?;
     let mut text = String::new(alloc);
@@ -114,14 +138,21 @@ fn render_changes(
     })
 }
 
-/// The line that refuses a saved state, and the line that explains why.
-fn render_saved_fault(alloc: Global, fault: SavedFault) -> Result<Report, AllocError>
+/// The line that refuses a saved state, and the line that explains why over the tree, if there is one.
+fn render_saved_fault(
+    alloc: Global,
+    tree: Option<&Value>,
+    fault: SavedFault,
+) -> Result<Report, AllocError>
     ensures { IfOk result (λ report. (setup : Configuration) → (start : Option ℕ)
-        → IsSavedReport start setup (Err fault) report.text.items report.outcome) }
+        → IsSavedReport start setup (tree_or_null (option_map (λ v. view v.now) tree.entry)) (Err fault)
+        report.text.items report.outcome) }
 {
+    let words = explain_saved(alloc, tree, fault)?;
     let mut text = String::new(alloc);
     push_refusal(&mut text, InputRefusal::Saved(fault))?;
-    push_explanation(alloc, &mut text, fault)?;
+    text.push_str(words.as_str())?;
+    text.push_str("\n")?;
     Ok(Report {
         text: text.into_bytes(),
         outcome: Outcome::Refused,

@@ -1,14 +1,15 @@
 //! A drill: reads a setup, return codes and moments, lets many workers work on one scheduler, and
 //! writes the history that they made.
 
-ghost use Rattle.std.specs.Prelude.{◌≡◌, ◌<◌, ◌≤◌, IfOk, IfErr, length};
+ghost use Rattle.std.specs.Prelude.{◌≡◌, ◌<◌, ◌≤◌, IfOk, IfErr, OnOk, length};
 ghost use Rattle.std.specs.List.{All};
 ghost use Rattle.check_book.specs.BookState.{book_opening};
 ghost use Rattle.check_book.specs.Books.{entries_of, refused_of, sched_of};
 ghost use Rattle.check_desk.specs.Desks.{AreNewPasses, IsPassOf, desk_opening, passes_of};
-ghost use Rattle.nagsched_jobs.specs.Drill.{DrillEnded, IsDrill, IsDrillWritten, drill_outcome};
+ghost use Rattle.nagsched_jobs.specs.Drill.{DrillEnded, IsDrill, IsDrillWritten, drill_note, drill_outcome};
 ghost use Rattle.nagsched_protocol.specs.DrillScript.{drill_script_of};
 ghost use Rattle.nagsched_protocol.specs.DrillScripted.{drill_script};
+ghost use Rattle.nagsched_protocol.specs.Notes.{IsNote};
 ghost use Rattle.nagsched_protocol.specs.Streams.{streams};
 ghost use Rattle.nagsched_protocol.specs.Text.{drill_text, entry_line, total_line};
 ghost use Rattle.nagsched_protocol.specs.Written.{IsLineWritten, IsTextWritten};
@@ -20,8 +21,8 @@ use check_objects::Setup;
 use check_sched::{Call, LAST_MOMENT, Reply};
 use check_workers::crew;
 use nagsched_protocol::{
-    DrillScript, DriveError, Ended, MAX_INPUT_BYTES, MAX_READ_BYTES, Outcome, flush, push_entry,
-    push_total, read_at_most, write_refusal, write_text,
+    AnswerForm, DrillScript, DriveError, Ended, MAX_INPUT_BYTES, MAX_READ_BYTES, Outcome, flush,
+    push_entry, push_total, read_at_most, refuse_input, write_text,
 };
 use std::alloc::{AllocError, Global};
 use std::io::{Read, Write};
@@ -34,7 +35,7 @@ use ticket_steps::{Entry, Kept};
 /// in milliseconds. Each worker asks for a check at each moment, and reports the scripted code of the
 /// check that it gets. When all workers have returned, the history is written, and then the total. Each
 /// entry is a line with the number of its pass. For a refused input only the line of its first refusal
-/// is written. The writer is flushed once, at the end.
+/// is written, and `note` gets the sentence that explains it. The writer is flushed once, at the end.
 ///
 /// The book has room for `room` entries, and memory for more is asked for as they come. A worker stops
 /// at its first call without memory, and the total counts this call.
@@ -54,15 +55,17 @@ pub fn drill<H: Threads + Wait + Sync, R: Read, W: Write>(
     room: usize,
     reader: &mut R,
     writer: &mut W,
+    note: &mut String,
 ) -> Ended
     requires start { start ≤ LAST_MOMENT }
     requires workers { (0 < workers) × (workers ≤ 64) }
-    ensures { DrillEnded start workers room result
+    ensures { (drill : DrillEnded start workers room result
         (streams (R.remaining reader.old) (R.remaining reader.new)
-        (W.contents writer.old) (W.contents writer.new)) }
+        (W.contents writer.old) (W.contents writer.new)))
+        × OnOk result (IsNote note.old note.new (drill_note drill.input)) }
 {
     let input = read_at_most(alloc, reader, MAX_READ_BYTES)?;
-    let outcome = answer(rt, alloc, start, workers, room, &input, writer)?;
+    let outcome = answer(rt, alloc, start, workers, room, &input, writer, note)?;
     flush(writer)?;
     Ok(outcome)
 }
@@ -77,22 +80,21 @@ fn answer<H: Threads + Wait + Sync, W: Write>(
     room: usize,
     input: &[u8],
     writer: &mut W,
+    note: &mut String,
 ) -> Ended
     requires start { start ≤ LAST_MOMENT }
     requires workers { (0 < workers) × (workers ≤ 64) }
     ensures wrote { IsDrillWritten start workers room input.now result
         (W.contents writer.old) (W.contents writer.new) }
     ensures outcome { IfOk result (λ outcome. outcome ≡ drill_outcome input.now) }
+    ensures note { OnOk result (IsNote note.old note.new (drill_note input.now)) }
 {
     match DrillScript::read(alloc, input) {
         Ok(script) => {
             let book = work_all(rt, alloc, start, workers, room, script)?;
             write_book(alloc, &book, writer)
         }
-        Err(error) => {
-            write_refusal(alloc, error.refusal()?, writer)?;
-            Ok(Outcome::Refused)
-        }
+        Err(error) => refuse_input(alloc, AnswerForm::Words, input, error, writer, note),
     }
 }
 

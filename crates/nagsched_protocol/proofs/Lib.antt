@@ -15,3 +15,4 @@ pub mod LiveLaws
 pub mod NameLengthLemmas
 pub mod ExplanationLemmas
 pub mod FlatLemmas
+pub mod NoteLemmas

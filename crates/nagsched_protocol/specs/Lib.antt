@@ -18,6 +18,7 @@ pub mod Start
 pub mod Text
 pub mod Explanation
 pub mod CallExplanation
+pub mod Notes
 pub mod JsonText
 pub mod Forms
 pub mod LiveText

@@ -67,8 +67,8 @@ pub use line_reader::{
 pub use live_error::LiveError;
 pub use outcome::{Ended, Outcome};
 pub use output::{
-    flush, print_text, push_explained_reply, refuse_as, write_json_list, write_json_reply,
-    write_json_saved, write_list, write_refusal, write_saved, write_text,
+    flush, print_text, push_explained_reply, refuse_as, refuse_input, write_json_list,
+    write_json_reply, write_json_saved, write_list, write_saved, write_text,
 };
 pub use reader::{ReaderFault, ask_reader};
 pub use refusal::{

@@ -1,13 +1,16 @@
 //! Gives bytes to a writer: a text, the line of a refusal or of a saved state, the lines of all objects,
 //! and the flush at the end. The modules `text`, `refusal_text`, `listing` and `json_text` make the lines.
 
-ghost use Rattle.std.specs.Prelude.{◌≡◌, ◌≤◌, ◌+◌, ◌++◌, IfErr, IfOk, OnOk, OnErr, IsOkUnless, string_bytes, string_capacity, string_len};
+ghost use Rattle.std.specs.Prelude.{◌≡◌, ◌≤◌, ◌+◌, ◌++◌, IfErr, IfOk, IfSome, IsErrAnd, IsOkUnless, None, OnErr, OnOk, string_bytes, string_capacity, string_len};
 ghost use Rattle.std.specs.Io.KnownBytes.{Appends, Keeps};
+ghost use Rattle.nagsched_protocol.specs.Agreement.{refusal};
 ghost use Rattle.nagsched_protocol.specs.Output.{WroteFront};
 ghost use Rattle.nagsched_protocol.specs.Explanation.{sentence};
 ghost use Rattle.nagsched_protocol.specs.Forms.{refusal_text};
 ghost use Rattle.nagsched_protocol.specs.CallExplanation.{IsRefused, explained_answer, explained_line, explained_reply};
+ghost use Rattle.nagsched_protocol.specs.Notes.{IsNote};
 ghost use Rattle.nagsched_protocol.specs.Requested.{head_id};
+ghost use Rattle.nagsched_protocol.specs.Script.{refused_bytes};
 ghost use Rattle.nagsched_protocol.specs.JsonText.{json_answer_line, json_list_line, json_saved_line};
 ghost use Rattle.nagsched_protocol.specs.Text.{list_lines, refusal_line, saved_line};
 ghost use Rattle.nagsched_protocol.specs.Written.{IsLineWritten};
@@ -18,8 +21,10 @@ use crate::drive_error::DriveError;
 use crate::explanation::explain_refusal;
 use crate::json_text::{Head, json_list_line, json_refusal_line, json_reply_line, json_saved_line};
 use crate::listing::list_lines;
-use crate::refusal::InputRefusal;
+use crate::outcome::{Ended, Outcome};
+use crate::refusal::{InputRefusal, ScriptError};
 use crate::refusal_text::push_refusal;
+use crate::script::refused_bytes;
 use crate::text::{Pushed, REPLY_BYTES, push_reply, saved_line};
 use check_objects::Setup;
 use check_sched::{Call, Reply, Sched};
@@ -47,22 +52,6 @@ pub fn write_text<W: Write>(writer: &mut W, text: &[u8]) -> Result<(), DriveErro
         rest = &rest[count..];
     }
     Ok(())
-}
-
-/// Writes the line of a refusal. Nothing is flushed. The error is `Write`, and a prefix of the line was
-/// written then, or `Memory`, and nothing was written.
-#[tactic(auto, using(crate::proofs::WrittenLemmas::line_written, crate::proofs::WrittenLemmas::line_unwritten))]
-pub fn write_refusal<W: Write>(
-    alloc: Global,
-    refusal: InputRefusal,
-    writer: &mut W,
-) -> Result<(), DriveError>
-    ensures { IsLineWritten result (W.contents writer.old) (W.contents writer.new)
-        (refusal_line refusal) }
-{
-    let mut line = String::new(alloc);
-    push_refusal(&mut line, refusal)?;
-    write_text(writer, line.as_bytes())
 }
 
 /// Writes the line of a scheduler's saved state. The scheduler stays as it is, and nothing is flushed.
@@ -103,6 +92,33 @@ pub fn refuse_as<W: Write>(
 {
     let text = refusal_text(alloc, form, line, refusal)?;
     write_text(writer, &text)
+}
+
+/// Writes the refusal of an input in this form, and appends the sentence that explains it to the note. Nothing is
+/// flushed. The error is `Write`, and a prefix of the refusal was written then, or `Memory`, and nothing was
+/// written.
+pub fn refuse_input<W: Write>(
+    alloc: Global,
+    form: AnswerForm,
+    input: &[u8],
+    error: ScriptError,
+    writer: &mut W,
+    note: &mut String,
+) -> Ended
+    ensures wrote { IfSome (refusal error) (λ why. IsLineWritten result (W.contents writer.old) (W.contents writer.new)
+        (refusal_text form (refused_bytes input.now why) why)) }
+    ensures note { IfSome (refusal error) (λ why. OnOk result
+        (IsNote note.old note.new (sentence (refused_bytes input.now why) why))) }
+    ensures outcome { IfOk result (λ outcome. outcome ≡ Outcome.Refused) }
+    ensures memory { refusal error ≡ None → IsErrAnd result (λ e. e ≡ DriveError.Memory)
+        × (W.contents writer.new ≡ W.contents writer.old) }
+{
+    let refusal = error.refusal()?;
+    let line = refused_bytes(input, refusal);
+    let explanation = explain_refusal(alloc, line, refusal)?;
+    note.push_str(explanation.as_str())?;
+    refuse_as(alloc, form, line, refusal, writer)?;
+    Ok(Outcome::Refused)
 }
 
 /// The refusal in this form.

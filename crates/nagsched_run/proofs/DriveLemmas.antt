@@ -1,7 +1,7 @@
 -- A whole run, and what its faults leave.
-use Rattle.std.proofs.Common.{◌≡◌, ◌≢◌, ℕ, List, [], ◌∷◌, ◌++◌, take, Option, None, Result, Ok, Err, refl, sym, subst, ap, ◌∙◌, append-nil, String}
+use Rattle.std.proofs.Common.{◌≡◌, ◌≢◌, ℕ, List, [], ◌++◌, take, Option, None, Result, Ok, Err, refl, subst, ap, ◌∙◌, String}
 use Rattle.std.proofs.Common.{inl, inr}
-use Rattle.std.specs.Prelude.{IfOk, IfSome, IsErrAnd, OnOk, string_bytes}
+use Rattle.std.specs.Prelude.{IfSome, IsErrAnd, string_bytes}
 use Rattle.std.specs.declared.alloc.Global.{Global}
 use Rattle.setup_model.specs.Agreement.{◌>>=◌, IsExpectedError}
 use Rattle.std.specs.Io.KnownBytes.{Appends, Keeps, Consumes}
@@ -12,23 +12,22 @@ use Rattle.nagsched_protocol.specs.declared.refusal.InputRefusal.TheVariants as 
 use Rattle.nagsched_protocol.specs.declared.refusal.LineFault.TheVariants as line_fault
 use Rattle.nagsched_protocol.specs.declared.start.Start.{Start}
 use Rattle.nagsched_protocol.specs.declared.answer_form.AnswerForm.TheVariants as forms
-use Rattle.nagsched_protocol.specs.declared.outcome.Outcome.TheVariants as outcomes
 use Rattle.nagsched_protocol.specs.declared.refusal.InputRefusal.{InputRefusal}
 use Rattle.nagsched_protocol.specs.declared.refusal.ScriptError.{ScriptError}
 use Rattle.nagsched_protocol.specs.declared.refusal.ScriptError.TheVariants as script_errors
 use Rattle.nagsched_protocol.specs.Agreement.{refusal}
-use Rattle.nagsched_protocol.specs.Explanation.{sentence}
 use Rattle.nagsched_protocol.specs.Forms.{refusal_text}
-use Rattle.nagsched_protocol.specs.Input.{lines_of}
-use Rattle.nagsched_protocol.specs.Script.{Script, beginning_of, line_at, refused_bytes, script_from, script_of}
+use Rattle.nagsched_protocol.specs.Notes.{IsNote}
+use Rattle.nagsched_protocol.specs.Script.{Script, beginning_of, refused_bytes, script_from, script_of}
 use Rattle.nagsched_protocol.specs.Text.{refusal_line, script_text, text}
 use Rattle.nagsched_protocol.specs.Written.{IsLineWritten, IsTextWritten, LeftOfText}
+use Rattle.nagsched_protocol.proofs.NoteLemmas.{line_text, memory_text, note_of_read}
 use Rattle.nagsched_protocol.proofs.OutputLemmas.{Appends-Keeps, front_all}
-use Rattle.nagsched_protocol.proofs.WrittenLemmas.{Keeps-same, text_line}
+use Rattle.nagsched_protocol.proofs.WrittenLemmas.{Keeps-same}
 use Rattle.nagsched_protocol.specs.declared.outcome.Outcome.{Outcome}
 use Rattle.nagsched_protocol.specs.Streams.{outcome_by, streams}
 use Rattle.nagsched_protocol.proofs.ReadLemmas.{IsOfRead, input_of, input_of-is, input_of-says, limit_tells, read_input, too_long_tells}
-use Rattle.nagsched_run.specs.Drive.{IsNote, RunEnded, LeavesRun, note_of, outcome_of, run_note}
+use Rattle.nagsched_run.specs.Drive.{RunEnded, LeavesRun, outcome_of, run_note}
 
 script_take : (how : Start) → IsOfRead (script_of how)
 unfolding script_of
@@ -42,25 +41,11 @@ pub outcome_take : (how : Start) → IsOfRead (outcome_of how)
 unfolding outcome_of
 outcome_take how bytes = ap outcome_by (script_take how bytes)
 
-pub no_line : (lines : List (List ℕ)) → line_at 0 lines ≡ []
-no_line [] = refl
-no_line (line ∷ lines) = refl
-
 note_take : (how : Start) → IsOfRead (run_note how)
 unfolding run_note script_of
-note_take how = too_long_tells (run_note how) (sentence [] (refusals.Line line_fault.TooLong 0)) (λ bytes h.
-    ap (note_of bytes) (limit_tells (λ input. beginning_of how input >>= script_from) bytes h) ∙ ap (λ line. sentence line (refusals.Line line_fault.TooLong 0)) (no_line (lines_of bytes)))
+note_take how = note_of_read (script_of how) (limit_tells (λ input. beginning_of how input >>= script_from))
 
 -- ---- a refused input
-
-line_text : {T : Type 0} (r : Result T DriveError) (old new : Option (List ℕ)) (line : List ℕ) → IsLineWritten r old new line → IsTextWritten r old new line
-line_text (Ok x) old new line h = h
-line_text (Err e) old new line h = text_line e old new line h
-
-memory_text : {T : Type 0} (r : Result T DriveError) (old new : Option (List ℕ)) (text : List ℕ) → IsErrAnd r (λ e. e ≡ errors.Memory) × (new ≡ old)
-    → IsTextWritten r old new text
-memory_text (Ok x) old new text h = absurd h.0
-memory_text (Err e) old new text h = rw (h.0, h.1) (inl (Keeps-same old))
 
 pub refused_text_written : {T : Type 0} (error : ScriptError) (input : List ℕ) (script : Result Script InputRefusal) (r : Result T DriveError) (old new : Option (List ℕ))
     → IsExpectedError (refusal error) script
@@ -68,32 +53,6 @@ pub refused_text_written : {T : Type 0} (error : ScriptError) (input : List ℕ)
     → (refusal error ≡ None → IsErrAnd r (λ e. e ≡ errors.Memory) × (new ≡ old)) → IsTextWritten r old new (script_text script)
 refused_text_written script_errors.Memory input script r old new is wrote memory = memory_text r old new (script_text script) (memory refl)
 refused_text_written (script_errors.Refused why) input script r old new is wrote memory = rw is (line_text r old new (refusal_line why) wrote)
-
-memory_ended : {T : Type 0} (P : Type 0) (r : Result T DriveError) → IsErrAnd r (λ e. e ≡ errors.Memory) → OnOk r P
-memory_ended P (Ok x) h = absurd h
-memory_ended P (Err e) h = tt
-
-pub refused_noted : {T A : Type 0} {h : Option (List ℕ)} (error : ScriptError) (input : List ℕ) (script : Result A InputRefusal) (r : Result T DriveError)
-    (new : Option (List ℕ)) (before after : String Global) → IsExpectedError (refusal error) script
-    → IfSome (refusal error) (λ why. OnOk r (IsNote before after (sentence (refused_bytes input why) why)))
-    → (refusal error ≡ None → IsErrAnd r (λ e. e ≡ errors.Memory) × (new ≡ h)) → OnOk r (IsNote before after (note_of input script))
-refused_noted script_errors.Memory input script r new before after is noted memory = memory_ended (IsNote before after (note_of input script)) r (memory refl).0
-refused_noted (script_errors.Refused why) input script r new before after is noted memory = rw is noted
-
-memory_outcome : (r : Result Outcome DriveError) (o : Outcome) → IsErrAnd r (λ e. e ≡ errors.Memory) → IfOk r (λ x. x ≡ o)
-memory_outcome (Ok x) o h = absurd h
-memory_outcome (Err e) o h = tt
-
-pub refused_outcome : {A : Type 0} {h : Option (List ℕ)} (error : ScriptError) (script : Result A InputRefusal) (r : Result Outcome DriveError) (new : Option (List ℕ))
-    → IsExpectedError (refusal error) script → IfOk r (λ o. o ≡ outcomes.Refused)
-    → (refusal error ≡ None → IsErrAnd r (λ e. e ≡ errors.Memory) × (new ≡ h)) → IfOk r (λ o. o ≡ outcome_by script)
-refused_outcome script_errors.Memory script r new is refused memory = memory_outcome r (outcome_by script) (memory refl).0
-refused_outcome (script_errors.Refused why) script r new is refused memory = rw is refused
-
-pub nothing_noted : {T A : Type 0} (r : Result T DriveError) (input : List ℕ) (note : String Global) (script : Result A InputRefusal) (x : A) → script ≡ Ok x
-    → OnOk r (IsNote note note (note_of input script))
-nothing_noted (Ok y) input note script x is = rw is (sym (append-nil (string_bytes note)))
-nothing_noted (Err e) input note script x is = tt
 
 -- ---- errors
 

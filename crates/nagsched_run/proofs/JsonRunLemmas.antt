@@ -23,22 +23,21 @@ use Rattle.nagsched_protocol.specs.declared.script.TheConstants.{MAX_INPUT_BYTES
 use Rattle.nagsched_protocol.specs.declared.start.Start.{Start}
 use Rattle.nagsched_protocol.specs.declared.start.Start.TheVariants as start
 use Rattle.nagsched_protocol.specs.Agreement.{refusal}
-use Rattle.nagsched_protocol.specs.Explanation.{sentence}
 use Rattle.nagsched_protocol.specs.Forms.{refusal_text}
 use Rattle.nagsched_protocol.specs.Input.{first_line_of, lines_of}
 use Rattle.nagsched_protocol.specs.LiveInput.{rest_after_line}
 use Rattle.nagsched_protocol.specs.LiveText.{live_text}
+use Rattle.nagsched_protocol.specs.Notes.{IsNote}
 use Rattle.nagsched_protocol.specs.Script.{beginning_of, beginning_over, refused_bytes, requests_in, requests_of, requests_over, state_after_resume_at, with_saved_refusal, with_setup_refusal}
 use Rattle.nagsched_protocol.proofs.LiveLaws.{begun}
 use Rattle.nagsched_protocol.specs.Streams.{outcome_by, streams}
 use Rattle.nagsched_protocol.specs.Written.{IsLineWritten}
+use Rattle.nagsched_protocol.proofs.NoteLemmas.{no_line, note_of_read}
 use Rattle.nagsched_protocol.proofs.OutputLemmas.{Appends-Keeps}
 use Rattle.nagsched_protocol.proofs.ReadLemmas.{IsOfRead, input_of, input_of-is, input_of-says, limit_tells, read_input, too_long_tells}
 use Rattle.nagsched_protocol.proofs.WrittenLemmas.{Keeps-same}
-use Rattle.nagsched_run.specs.Drive.{IsNote, note_of}
 use Rattle.nagsched_run.specs.JsonRun.{IsJsonText, JsonRunEnded, json_outcome, json_run_note, json_run_text, text_by}
 use Rattle.nagsched_run.specs.Live.{ConversationEnded, LeavesText}
-use Rattle.nagsched_run.proofs.DriveLemmas.{no_line}
 use Rattle.nagsched_run.proofs.LiveLemmas.{leaves_all, leaves_kept, leaves_left}
 
 -- ---- what is read of an input says all
@@ -57,8 +56,7 @@ outcome_take how = too_long_tells (json_outcome how) outcomes.Refused (λ bytes 
 
 note_take : (how : Start) → IsOfRead (json_run_note how)
 unfolding json_run_note requests_of
-note_take how = too_long_tells (json_run_note how) (sentence [] (refusals.Line line_fault.TooLong 0)) (λ bytes h.
-    ap (note_of bytes) (limit_tells (tests_of how) bytes h) ∙ ap (λ line. sentence line (refusals.Line line_fault.TooLong 0)) (no_line (lines_of bytes)))
+note_take how = note_of_read (requests_of how) (limit_tells (tests_of how))
 
 -- ---- a conversation over an input whose lines were tested
 

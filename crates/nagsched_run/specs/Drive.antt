@@ -1,13 +1,11 @@
 -- How a run from a reader to a writer ends, with or without a fault.
-use Rattle.std.specs.Prelude.{ℕ, ◌≡◌, ◌⊎◌, List, [], ◌++◌, Option, Result, Ok, Err, IfErr, IfOk, OnErr, OnOk, String, string_bytes}
-use Rattle.std.specs.declared.alloc.Global.{Global}
+use Rattle.std.specs.Prelude.{ℕ, ◌≡◌, ◌⊎◌, List, Option, Result, IfErr, IfOk, OnErr, OnOk}
 use Rattle.std.specs.Io.KnownBytes.{Appends, Keeps}
 use Rattle.nagsched_protocol.specs.declared.drive_error.DriveError.{DriveError}
 use Rattle.nagsched_protocol.specs.declared.drive_error.DriveError.TheVariants as errors
 use Rattle.nagsched_protocol.specs.declared.start.Start.{Start}
-use Rattle.nagsched_protocol.specs.declared.refusal.InputRefusal.{InputRefusal}
-use Rattle.nagsched_protocol.specs.Explanation.{sentence}
-use Rattle.nagsched_protocol.specs.Script.{refused_bytes, script_of}
+use Rattle.nagsched_protocol.specs.Notes.{note_of}
+use Rattle.nagsched_protocol.specs.Script.{script_of}
 use Rattle.nagsched_protocol.specs.Output.{WroteFront, WroteShort}
 use Rattle.nagsched_protocol.specs.Text.{text}
 use Rattle.nagsched_protocol.specs.declared.outcome.Outcome.{Outcome}
@@ -17,18 +15,9 @@ use Rattle.nagsched_protocol.specs.Streams.{HasRead, IsInput, Streams, outcome_b
 unfoldable pub outcome_of : Start → List ℕ → Outcome
 outcome_of how input = outcome_by (script_of how input)
 
--- the sentence that explains the refusal of an input, or nothing
-abbrev pub note_of : {A : Type 0} → List ℕ → Result A InputRefusal → List ℕ
-note_of input (Ok x) = []
-note_of input (Err why) = sentence (refused_bytes input why) why
-
 -- what a run on the input notes
 unfoldable pub run_note : Start → List ℕ → List ℕ
 run_note how input = note_of input (script_of how input)
-
--- these bytes were appended to a note
-abbrev pub IsNote : String Global → String Global → List ℕ → Type 0
-IsNote old new text = string_bytes new ≡ string_bytes old ++ text
 
 -- The part of a text that an error leaves. After a fault of the reader nothing was written, and after a fault of the writer a prefix of the text. Out
 -- of memory, nothing was written, or whole lines of the text that aren't all of it.

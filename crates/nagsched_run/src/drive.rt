@@ -1,24 +1,21 @@
 //! A run: reads an input, carries out its commands on one scheduler, and writes the lines of the answers.
 
-ghost use Rattle.std.specs.Prelude.{◌≡◌, ◌≢◌, ◌≤◌, IfErr, IfOk, IfSome, IsErrAnd, None, OnOk, string_capacity};
+ghost use Rattle.std.specs.Prelude.{◌≡◌, ◌≢◌, ◌≤◌, IfErr, IfOk, OnOk, string_capacity};
 ghost use Rattle.check_sched.specs.Step.{step};
-ghost use Rattle.nagsched_protocol.specs.Forms.{answer_text, explained_text, json_line, refusal_text};
+ghost use Rattle.nagsched_protocol.specs.Forms.{answer_text, explained_text, json_line};
 ghost use Rattle.nagsched_protocol.specs.Start.{CanStart};
 ghost use Rattle.nagsched_protocol.specs.Text.{answer_line, line_from, state_after_command, text, text_from};
 ghost use Rattle.nagsched_protocol.specs.Written.{IsLineWritten, IsTextWritten};
-ghost use Rattle.nagsched_protocol.specs.Agreement.{refusal};
-ghost use Rattle.nagsched_protocol.specs.Explanation.{sentence};
 ghost use Rattle.nagsched_protocol.specs.Requested.{request as request_view};
-ghost use Rattle.nagsched_protocol.specs.Script.{refused_bytes};
-ghost use Rattle.nagsched_run.specs.Drive.{IsNote, RunEnded, outcome_of, run_note};
+ghost use Rattle.nagsched_protocol.specs.Notes.{IsNote};
+ghost use Rattle.nagsched_run.specs.Drive.{RunEnded, outcome_of, run_note};
 ghost use Rattle.nagsched_protocol.specs.Streams.{streams};
 
 use check_sched::{Call, LAST_MOMENT, Sched};
 use nagsched_protocol::{
     AnswerForm, DriveError, Ended, Head, MAX_READ_BYTES, Outcome, REPLY_BYTES, Request, RunCommand,
-    Script, ScriptError, Start, explain_refusal, flush, push_explained_reply, push_reply,
-    read_at_most, refuse_as, refused_bytes, write_json_list, write_json_reply, write_json_saved,
-    write_list, write_saved, write_text,
+    Script, Start, flush, push_explained_reply, push_reply, read_at_most, refuse_input,
+    write_json_list, write_json_reply, write_json_saved, write_list, write_saved, write_text,
 };
 use std::alloc::Global;
 use std::io::{Read, Write};
@@ -97,32 +94,6 @@ fn answer<W: Write>(
         Ok(Script { sched, commands }) => carry_out(alloc, sched, &commands, writer),
         Err(error) => refuse_input(alloc, AnswerForm::Words, input, error, writer, note),
     }
-}
-
-/// Writes the refusal of an input in this form, and appends the sentence that explains it to the note. Out of
-/// memory nothing is written.
-pub(crate) fn refuse_input<W: Write>(
-    alloc: Global,
-    form: AnswerForm,
-    input: &[u8],
-    error: ScriptError,
-    writer: &mut W,
-    note: &mut String,
-) -> Ended
-    ensures wrote { IfSome (refusal error) (λ why. IsLineWritten result (W.contents writer.old) (W.contents writer.new)
-        (refusal_text form (refused_bytes input.now why) why)) }
-    ensures note { IfSome (refusal error) (λ why. OnOk result
-        (IsNote note.old note.new (sentence (refused_bytes input.now why) why))) }
-    ensures outcome { IfOk result (λ outcome. outcome ≡ Outcome.Refused) }
-    ensures memory { refusal error ≡ None → IsErrAnd result (λ e. e ≡ DriveError.Memory)
-        × (W.contents writer.new ≡ W.contents writer.old) }
-{
-    let refusal = error.refusal()?;
-    let line = refused_bytes(input, refusal);
-    let explanation = explain_refusal(alloc, line, refusal)?;
-    note.push_str(explanation.as_str())?;
-    refuse_as(alloc, form, line, refusal, writer)?;
-    Ok(Outcome::Refused)
 }
 
 /// Carries out these commands on a scheduler that nobody needs afterwards, and writes the line of each

@@ -2,15 +2,14 @@
 //! conversation.
 
 ghost use Rattle.std.specs.Prelude.{◌≡◌, IfOk, OnOk};
+ghost use Rattle.nagsched_protocol.specs.Notes.{IsNote};
 ghost use Rattle.nagsched_protocol.specs.Start.{CanStart};
 ghost use Rattle.nagsched_protocol.specs.Streams.{streams};
-ghost use Rattle.nagsched_run.specs.Drive.{IsNote};
 ghost use Rattle.nagsched_run.specs.JsonRun.{JsonRunEnded, IsJsonText, json_outcome, json_run_note, json_run_text};
 
-use crate::drive::refuse_input;
 use crate::live::live;
 use nagsched_protocol::{
-    AnswerForm, Ended, MAX_READ_BYTES, Start, flush, read_at_most, test_requests,
+    AnswerForm, Ended, MAX_READ_BYTES, Start, flush, read_at_most, refuse_input, test_requests,
 };
 use std::alloc::Global;
 use std::io::{Read, Write};

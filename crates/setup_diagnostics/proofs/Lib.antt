@@ -8,3 +8,5 @@ pub mod NumberLemmas
 pub mod GrowthLemmas
 pub mod KindLemmas
 pub mod JsonLemmas
+pub mod SavedKeyLemmas
+pub mod SavedShapeLemmas

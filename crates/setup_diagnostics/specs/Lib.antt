@@ -11,3 +11,5 @@ pub mod Explanation
 pub mod Numbers
 pub mod Schema
 pub mod Kinds
+pub mod SavedShapes
+pub mod SavedExplanation

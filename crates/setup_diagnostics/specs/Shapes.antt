@@ -27,8 +27,12 @@ nth_member_name index ms = slice_get (keys_in ms) index
 abbrev pub member_name_at : Data → Place → ℕ → Option (List ℕ)
 member_name_at tree place index = option_and_then (nth_member_name index) (option_and_then as_object (value_at tree place))
 
+-- a member of this name isn't known
+abbrev pub unknown_name_text : Option (List ℕ) → List ℕ
+unknown_name_text name = role_text (codes "a member ") name ++ codes " isn't known here"
+
 abbrev pub unknown_text : Data → Place → ℕ → List ℕ
-unknown_text tree place index = role_text (codes "a member ") (member_name_at tree place index) ++ codes " isn't known here"
+unknown_text tree place index = unknown_name_text (member_name_at tree place index)
 
 abbrev pub missing_text : List ℕ → List ℕ
 missing_text name = codes "the member " ++ (quotation name ++ codes " is missing")

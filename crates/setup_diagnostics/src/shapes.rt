@@ -10,7 +10,7 @@ ghost use Rattle.serde_json.specs.Find.{as_array, get};
 ghost use Rattle.serde_json.specs.View.{items_view};
 ghost use Rattle.setup_reader.specs.Places.{value_at};
 ghost use Rattle.setup_diagnostics.specs.Feeds.{has_line_feed};
-ghost use Rattle.setup_diagnostics.specs.Shapes.{nth_member_name, member_name_at, first_wrong_text, kind_text, missing_text, unknown_text, Appends, IsItemFault, IsKindFault, IsMemberFault, IsShapeFault, IsShapeText, IsWrongMember};
+ghost use Rattle.setup_diagnostics.specs.Shapes.{nth_member_name, member_name_at, first_wrong_text, kind_text, missing_text, unknown_name_text, Appends, IsItemFault, IsKindFault, IsMemberFault, IsShapeFault, IsShapeText, IsWrongMember};
 ghost use Rattle.setup_diagnostics.specs.Excerpts.{quotation};
 
 use crate::kinds::{kind_words, push_shown};
@@ -53,8 +53,8 @@ fn push_shape_fault(
         ShapeFault::NotAnObject => {
             push_kind_fault(alloc, line, "this is ", value_at(tree, place), "an object")
         }
-        ShapeFault::Unknown(index) => push_unknown(line, tree, place, index),
-        ShapeFault::Missing(member) => push_missing(line, member),
+        ShapeFault::Unknown(index) => push_unknown(line, member_name_at(tree, place, index)),
+        ShapeFault::Missing(member) => push_missing(line, member.name),
         ShapeFault::WrongKind(member) => {
             push_wrong_member(alloc, line, value_at(tree, place), member)
         }
@@ -62,7 +62,7 @@ fn push_shape_fault(
 }
 
 /// Appends these words, a value, and the kind that it must have.
-fn push_kind_fault(
+pub(crate) fn push_kind_fault(
     alloc: Global,
     line: &mut Line,
     words: &str,
@@ -80,11 +80,12 @@ fn push_kind_fault(
     line.push_words(kind)
 }
 
-/// Appends that the member at this index isn't known.
-fn push_unknown(line: &mut Line, tree: &Value, place: Place, index: usize) -> Pushed
-    ensures { OnOk result (line.new ≡ line.old ++ unknown_text (view tree.now) place index) }
+/// Appends that the member of this name isn't known.
+pub(crate) fn push_unknown(line: &mut Line, name: Option<&str>) -> Pushed
+    ensures { OnOk result (line.new
+        ≡ line.old ++ unknown_name_text (option_map (λ name. name.now) name.entry)) }
 {
-    line.push_name("a member ", member_name_at(tree, place, index))?;
+    line.push_name("a member ", name)?;
     line.push_words(" isn't known here")
 }
 
@@ -112,12 +113,12 @@ fn nth_key(object: &Map<String, Value>, index: usize) -> Option<&String>
     object.keys().nth(index)
 }
 
-/// Appends that a member is missing.
-fn push_missing(line: &mut Line, member: Member) -> Pushed
-    ensures { OnOk result (line.new ≡ line.old ++ missing_text member.name.now) }
+/// Appends that the member of this name is missing.
+pub(crate) fn push_missing(line: &mut Line, name: &str) -> Pushed
+    ensures { OnOk result (line.new ≡ line.old ++ missing_text name.now) }
 {
     line.push_words("the member ")?;
-    line.push_text(member.name)?;
+    line.push_text(name)?;
     line.push_words(" is missing")
 }
 

@@ -12,8 +12,7 @@
 //! are abandoned, and the values that the setup changes for an object that is kept:
 //! - `diffs`: compares the objects of the setup with those of the saved state;
 //! - `figures`: counts them;
-//! - `change_text`: the lines;
-//! - `explanation`: the words for a saved state that is refused.
+//! - `change_text`: the lines.
 //!
 //! `laws` has the facts that both kinds of figures meet.
 
@@ -22,7 +21,6 @@ mod change_text;
 mod counts;
 mod depths;
 mod diffs;
-mod explanation;
 mod figures;
 pub mod laws;
 mod spans;
@@ -32,7 +30,6 @@ mod summary_text;
 pub use chains::Chains;
 pub use change_text::push_changes;
 pub use counts::{Links, Reasons};
-pub use explanation::push_explanation;
 pub use spans::Span;
 pub use summary::Summary;
 pub use summary_text::push_summary;

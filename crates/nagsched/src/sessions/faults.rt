@@ -120,7 +120,17 @@ fn each_job_reports_a_reader_that_fails(rt: HostRuntime) -> Result<(), Fail> {
         let told = check(alloc, start, &mut failing_reader(b"{}"), good);
         assert_eq!(rt; told, Err(DriveError::Read));
     }
-    let drilled = drill(&rt, alloc, 0, 1, 100, &mut failing_reader(b"{}"), good);
+    let note = &mut String::new(alloc);
+    let drilled = drill(
+        &rt,
+        alloc,
+        0,
+        1,
+        100,
+        &mut failing_reader(b"{}"),
+        good,
+        note,
+    );
     assert_eq!(rt; drilled, Err(DriveError::Read));
     Ok(())
 }
@@ -141,7 +151,8 @@ fn each_job_reports_a_writer_that_fails(rt: HostRuntime) -> Result<(), Fail> {
     assert_eq!(rt; talked, Err(DriveError::Write));
     let told = write_setup_line(alloc, &mut b"{}".as_slice(), writer);
     assert_eq!(rt; told, Err(DriveError::Write));
-    let drilled = drill(&rt, alloc, 0, 1, 100, &mut b"{}".as_slice(), writer);
+    let note = &mut String::new(alloc);
+    let drilled = drill(&rt, alloc, 0, 1, 100, &mut b"{}".as_slice(), writer, note);
     assert_eq!(rt; drilled, Err(DriveError::Write));
     Ok(())
 }

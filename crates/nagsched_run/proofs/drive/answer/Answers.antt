@@ -1,6 +1,7 @@
 use Rattle.nagsched_protocol.specs.Text.{text}
 use Rattle.nagsched_run.specs.Drive.{outcome_of, run_note}
-use Rattle.nagsched_run.proofs.DriveLemmas.{nothing_noted, refused_noted, refused_outcome, refused_text_written}
+use Rattle.nagsched_protocol.proofs.NoteLemmas.{nothing_noted, refused_noted, refused_outcome}
+use Rattle.nagsched_run.proofs.DriveLemmas.{refused_text_written}
 use Rattle.nagsched_run.proofs.drive.answer.Goals as goal
 
 pub returns-in-Ok-clause-wrote : goal.returns-in-Ok-clause-wrote

@@ -1,5 +1,5 @@
 use Rattle.nagsched_run.specs.JsonRun.{json_outcome, json_run_note, json_run_text}
-use Rattle.nagsched_run.proofs.DriveLemmas.{nothing_noted, refused_noted, refused_outcome}
+use Rattle.nagsched_protocol.proofs.NoteLemmas.{nothing_noted, refused_noted, refused_outcome}
 use Rattle.nagsched_run.proofs.JsonRunLemmas.{refused_json, talked_outcome, talked_text}
 use Rattle.nagsched_run.proofs.json_run.answer.Goals as goal
 

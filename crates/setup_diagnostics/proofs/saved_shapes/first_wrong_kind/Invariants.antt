@@ -1,0 +1,10 @@
+use Rattle.std.proofs.Common.{◌≡◌, drop, find, map}
+use Rattle.serde_json.specs.View.{view}
+use Rattle.check_saved_state.specs.Table.{as_row}
+use Rattle.setup_diagnostics.specs.SavedShapes.{has_wrong_kind}
+use Rattle.setup_diagnostics.proofs.saved_shapes.first_wrong_kind.Given as goal
+
+abbrev pub invariant-loop-member : goal.invariant-loop-member
+invariant-loop-member l =
+    find (has_wrong_kind l.format (view l.object)) (map as_row l.members)
+    ≡ find (has_wrong_kind l.format (view l.object)) (map as_row (drop l.member-index l.members))
