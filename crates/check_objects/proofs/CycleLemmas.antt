@@ -5,8 +5,8 @@ use Rattle.setup_model.specs.Agreement.{◌>>=◌}
 use Rattle.setup_model.specs.ParsedSetup.{ParsedSetup}
 use Rattle.setup_model.specs.Fault as fault
 use Rattle.setup_model.specs.declared.dependency.Dependency.{Dependency}
-use Rattle.setup_objects.specs.Configuration.{Configuration, masters_in, masters_of, parents_by_host}
-use Rattle.setup_objects.specs.Numbering.{configuration}
+use Rattle.check_objects.specs.Configuration.{Configuration, masters_in, masters_of, parents_by_host}
+use Rattle.check_objects.specs.Numbering.{configuration}
 use Rattle.setup_order.specs.Cycles.{has_cycle}
 use Rattle.setup_order.specs.Orders.{IsOrder}
 use Rattle.setup_order.proofs.ChainLemmas.{order_has_no_cycle}

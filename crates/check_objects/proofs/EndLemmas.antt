@@ -7,16 +7,16 @@ use Rattle.setup_model.specs.Ends.{is_known, full_names}
 use Rattle.setup_model.specs.Keys.{names_of, key_of}
 use Rattle.setup_model.specs.Name.{full_name}
 use Rattle.setup_model.proofs.ListLemmas.{list_any-map}
-use Rattle.setup_verification.specs.Verification.{verification}
-use Rattle.setup_verification.proofs.FaultlessLemmas.{faultless}
+use Rattle.setup_reader.specs.Verification.{verification}
+use Rattle.setup_reader.proofs.FaultlessLemmas.{faultless}
 use Rattle.setup_model.proofs.RefusalLemmas.{have_known_ends}
-use Rattle.setup_objects.specs.declared.object_index.Host.{Host}
-use Rattle.setup_objects.specs.declared.object_index.Service.{Service}
-use Rattle.setup_objects.specs.Configuration as spec
-use Rattle.setup_objects.specs.Entries.{host_entry, service_entry, names_in}
-use Rattle.setup_objects.specs.Numbering.{configuration, numbered_host, hosts_in_order, names_in_order}
-use Rattle.setup_objects.proofs.NameLemmas.{found, no_host_has}
-use Rattle.setup_objects.proofs.NumberedLemmas.{known_in_order, full_name_in_order}
+use Rattle.check_objects.specs.declared.object_index.Host.{Host}
+use Rattle.check_objects.specs.declared.object_index.Service.{Service}
+use Rattle.check_objects.specs.Configuration as spec
+use Rattle.check_objects.specs.Entries.{host_entry, service_entry, names_in}
+use Rattle.check_objects.specs.Numbering.{configuration, numbered_host, hosts_in_order, names_in_order}
+use Rattle.check_objects.proofs.NameLemmas.{found, no_host_has}
+use Rattle.check_objects.proofs.NumberedLemmas.{known_in_order, full_name_in_order}
 use Rattle.check_objects.proofs.SetupLemmas.{parted_hosts}
 
 -- ---- one name
@@ -33,9 +33,9 @@ service_entry_known entries services are name =
     list_any-map (bytes_eq name) (λ e. string_bytes e.0) entries ∙ sym (list_any-map (λ s. bytes_eq name s.name) service_entry entries)
     ∙ ap (list_any (λ s. bytes_eq name s.name)) are
 
-ends_alike : (names others : List (List ℕ)) → ((name : List ℕ) → is_known names name ≡ is_known others name) → (ds : List ParsedDependency)
+known_ends_alike : (names others : List (List ℕ)) → ((name : List ℕ) → is_known names name ≡ is_known others name) → (ds : List ParsedDependency)
     → have_known_ends others ds ≡ have_known_ends names ds
-ends_alike names others same ds =
+known_ends_alike names others same ds =
     let alike : is_known others ≡ is_known names = λ i name. sym (same name) i in
     ap (λ (known : List ℕ → Bool). list_all (λ d. known d.dependent && known d.master) ds) alike
 
@@ -49,7 +49,7 @@ module _ (ds : ParsedSetup) (e : verification ds ≡ Ok tt) (hosts : List (Strin
       ∙ sym (known_in_order ds.hosts name)
 
   pub host_ends : have_known_ends (names_in hosts) ds.host_dependencies ≡ true
-  host_ends = ends_alike (names_of ds.hosts) (names_in hosts) (λ name. sym (host_known name)) ds.host_dependencies ∙ (faultless ds e).host_ends
+  host_ends = known_ends_alike (names_of ds.hosts) (names_in hosts) (λ name. sym (host_known name)) ds.host_dependencies ∙ (faultless ds e).host_ends
 
 module _ (ds : ParsedSetup) (e : verification ds ≡ Ok tt) (hosts : List (String Global × Host)) (services : List (String Global × Service))
     (hosts_are : map host_entry hosts ≡ (configuration ds).hosts) (services_are : map service_entry services ≡ (configuration ds).services) where
@@ -71,4 +71,4 @@ module _ (ds : ParsedSetup) (e : verification ds ≡ Ok tt) (hosts : List (Strin
   -- the ends of dependencies are in the maps, since they are in the document
   pub service_ends : have_known_ends (names_in services) ds.service_dependencies ≡ true
   service_ends =
-      ends_alike (full_names ds.services) (names_in services) (λ name. sym (service_known name)) ds.service_dependencies ∙ (faultless ds e).service_ends
+      known_ends_alike (full_names ds.services) (names_in services) (λ name. sym (service_known name)) ds.service_dependencies ∙ (faultless ds e).service_ends

@@ -8,9 +8,9 @@ use Rattle.std.proofs.lemmas.List.Elements.{All-weaker}
 use Rattle.std.proofs.lemmas.Bool.{ltb-true}
 use Rattle.std.proofs.lemmas.List.Sums.{AllPass-from_list_all}
 use Rattle.setup_model.specs.declared.dependency.Dependency.{Dependency}
-use Rattle.setup_objects.specs.declared.object_index.Host.{Host}
-use Rattle.setup_objects.specs.Configuration.{Configuration, IsSetup, masters_in, dependencies_of, object_count}
-use Rattle.setup_objects.specs.Entries.{host_entry}
+use Rattle.check_objects.specs.declared.object_index.Host.{Host}
+use Rattle.check_objects.specs.Configuration.{Configuration, IsSetup, masters_in, dependencies_of, object_count}
+use Rattle.check_objects.specs.Entries.{host_entry}
 use Rattle.setup_order.proofs.TestLemmas.{both_true}
 use Rattle.std.proofs.lemmas.List.Folds.{list_all-map}
 
@@ -23,8 +23,8 @@ masters_at n (ds ∷ lists) zero h = sym (list_all-map (λ l. nat_lt l n) (λ d.
 masters_at n (ds ∷ lists) (suc k) h = masters_at n lists k (both_true _ _ h).1
 
 -- the masters of an object are objects
-pub masters_below : (c : Configuration) (k : ℕ) → IsSetup c → All (λ d. d.master < object_count c) (dependencies_of c k)
-masters_below c k is =
+pub setup_masters_below : (c : Configuration) (k : ℕ) → IsSetup c → All (λ d. d.master < object_count c) (dependencies_of c k)
+setup_masters_below c k is =
     let n = object_count c in
     All-weaker (λ d. nat_lt d.master n ≡ true) (λ d. d.master < n) (λ d e. ltb-true d.master n e) (dependencies_of c k)
     (AllPass-from_list_all (λ d. nat_lt d.master n) (dependencies_of c k) (masters_at n c.dependencies k is.masters_in_range))

@@ -1,3 +1,13 @@
+pub mod NumberingLemmas
+pub mod ObjectLemmas
+pub mod NameLemmas
+pub mod BucketLemmas
+pub mod SortLemmas
+pub mod NumberLaws
+pub mod DependencyLemmas
+pub mod DependencyEndLemmas
+pub mod CountLaws
+pub mod NumberedLemmas
 pub mod SetupLemmas
 pub mod GetterLemmas
 pub mod CycleLemmas

@@ -8,23 +8,23 @@ use Rattle.std.proofs.lemmas.Bool.{eqb-true, eq-eqb}
 use Rattle.std.proofs.lemmas.List.Folds.{list_any-append, list_all-append}
 use Rattle.std.proofs.lemmas.List.Sorted.{IsPermutation-map}
 use Rattle.std.proofs.lemmas.Slice.Eq.{bytes_eq-Decides}
-use Rattle.setup_objects.specs.Configuration.{Configuration, named_host, named_service, objects_of, object_count, number_by_name, name_of}
+use Rattle.check_objects.specs.Configuration.{Configuration, named_host, named_service, objects_of, object_count, number_by_name, name_of}
 use Rattle.setup_model.specs.ParsedSetup.{ParsedSetup, ParsedHost, ParsedDependency}
 use Rattle.setup_model.specs.Ends.{full_names, has_known_ends, is_known}
-use Rattle.setup_verification.specs.Verification.{verification}
+use Rattle.setup_reader.specs.Verification.{verification}
 use Rattle.setup_model.specs.Keys.{names_of}
 use Rattle.check_objects.specs.Links.{named_parents, named_dependency, named_dependencies, all_named_dependencies}
-use Rattle.setup_objects.specs.Numbering.{index_of_name, numbered_host, numbered_dependency, all_dependencies, dependencies_among}
-use Rattle.setup_objects.specs.Numbering.{hosts_in_order, names_in_order, configuration}
+use Rattle.check_objects.specs.Numbering.{index_of_name, numbered_host, numbered_dependency, all_dependencies, dependencies_among}
+use Rattle.check_objects.specs.Numbering.{hosts_in_order, names_in_order, configuration}
 use Rattle.std.proofs.lemmas.List.Folds.{list_all-map}
 use Rattle.setup_model.proofs.ListLemmas.{list_any-map}
-use Rattle.setup_objects.proofs.BucketLemmas.{bucket, in_buckets, joined_same}
+use Rattle.check_objects.proofs.BucketLemmas.{bucket, in_buckets, joined_same}
 use Rattle.setup_order.proofs.TestLemmas.{and_first, and_second, and_both, or_second, or_first}
-use Rattle.setup_objects.proofs.DependencyLemmas.{list_of_object}
-use Rattle.setup_objects.proofs.NameLemmas.{HasNames, found, name_leads_back, all_moved}
-use Rattle.setup_objects.proofs.NumberedLemmas.{host_names_are, host_named, known_in_order, full_name_in_order}
-use Rattle.setup_objects.proofs.NumberLaws.{every_host}
-use Rattle.setup_verification.proofs.FaultlessLemmas.{faultless}
+use Rattle.check_objects.proofs.DependencyLemmas.{list_of_object}
+use Rattle.check_objects.proofs.NameLemmas.{HasNames, found, name_leads_back, all_moved}
+use Rattle.check_objects.proofs.NumberedLemmas.{host_names_are, host_named, known_in_order, full_name_in_order}
+use Rattle.check_objects.proofs.NumberLaws.{every_host}
+use Rattle.setup_reader.proofs.FaultlessLemmas.{faultless}
 use Rattle.check_objects.proofs.SetupLemmas.{names_of_document, dependents_within}
 
 -- ---- names of objects

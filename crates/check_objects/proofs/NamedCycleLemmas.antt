@@ -1,5 +1,6 @@
 -- Cycles of a document without a fault: the names of their objects, which are all of one sort.
-use Rattle.std.proofs.Common.{◌≡◌, ℕ, zero, suc, ◌+◌, ◌<◌, ◌==◌, true, List, ◌++◌, drop, get_or, map, take, length, String, Global, refl, sym, ap, subst, ◌∙◌, Ok, cond, [], ◌∷◌, arith}
+use Rattle.std.proofs.Common.{◌≡◌, ℕ, zero, suc, ◌+◌, ◌<◌, ◌==◌, true, List, ◌++◌, drop, get_or, map, take, length, String, Global, refl, sym, ap, subst, ◌∙◌}
+use Rattle.std.proofs.Common.{Ok, cond, [], ◌∷◌, arith}
 use Rattle.std.specs.Prelude.{nat_lt, slice_index_or}
 use Rattle.std.proofs.lemmas.Bool.{eqb-true}
 use Rattle.std.proofs.lemmas.List.{drop-map, length-append, length-map, map-append, take-map}
@@ -8,14 +9,15 @@ use Rattle.setup_model.specs.declared.dependency.Dependency.{Dependency}
 use Rattle.setup_model.specs.declared.place.Part.TheVariants as part
 use Rattle.setup_model.specs.ParsedSetup.{ParsedSetup}
 use Rattle.setup_model.proofs.ListLemmas.{list_any-map}
-use Rattle.setup_verification.specs.Verification.{verification}
-use Rattle.setup_verification.proofs.VerificationLemmas.{get_or_same}
-use Rattle.setup_objects.specs.declared.object_index.Host.{Host}
-use Rattle.setup_objects.specs.declared.object_index.Service.{Service}
-use Rattle.setup_objects.specs.Configuration.{Configuration, dependencies_of, host_count, masters_in, masters_of, named_host, named_service, object_count, objects_of, parents_by_host}
-use Rattle.setup_objects.specs.Entries.{host_entry, objects_in, service_entry}
-use Rattle.setup_objects.specs.Numbering.{configuration}
-use Rattle.setup_objects.proofs.NameLemmas.{found}
+use Rattle.setup_reader.specs.Verification.{verification}
+use Rattle.setup_reader.proofs.VerificationLemmas.{get_or_same}
+use Rattle.check_objects.specs.declared.object_index.Host.{Host}
+use Rattle.check_objects.specs.declared.object_index.Service.{Service}
+use Rattle.check_objects.specs.Configuration.{Configuration, dependencies_of, host_count, masters_in, masters_of, named_host, named_service, object_count}
+use Rattle.check_objects.specs.Configuration.{objects_of, parents_by_host}
+use Rattle.check_objects.specs.Entries.{host_entry, objects_in, service_entry}
+use Rattle.check_objects.specs.Numbering.{configuration}
+use Rattle.check_objects.proofs.NameLemmas.{found}
 use Rattle.setup_order.specs.Cycles.{links_of}
 use Rattle.setup_order.specs.Results.{successor, IsCycle}
 use Rattle.setup_order.specs.Orders.{is_among}

@@ -20,30 +20,30 @@ use Rattle.setup_model.specs.declared.member.Kind.TheVariants as kind
 use Rattle.setup_model.specs.Member.{Row, is_between, is_within_limits, limits_of}
 use Rattle.setup_model.specs.Members as members
 use Rattle.setup_model.specs.declared.parsed_setup.Object.{Object}
-use Rattle.setup_objects.specs.Configuration.{Configuration, Host, IsSetup, IsWithin, IsDelayInRange, IsFactorInRange, is_object_in_range, named_host}
-use Rattle.setup_objects.specs.Configuration.{named_service, objects_of, object_count, masters_in, masters_of, parents_by_host, host_count}
+use Rattle.check_objects.specs.Configuration.{Configuration, Host, IsSetup, IsWithin, IsDelayInRange, IsFactorInRange, is_object_in_range, named_host}
+use Rattle.check_objects.specs.Configuration.{named_service, objects_of, object_count, masters_in, masters_of, parents_by_host, host_count}
 use Rattle.setup_model.specs.Name.{full_name, is_host_name, is_name, text_order, pair_order}
-use Rattle.setup_objects.specs.Configuration.{dependencies_of, pair_of, IsSameSort}
+use Rattle.check_objects.specs.Configuration.{dependencies_of, pair_of, IsSameSort}
 use Rattle.setup_order.specs.Cycles.{has_cycle, are_within}
 use Rattle.setup_model.specs.ParsedSetup.{ParsedSetup, ParsedHost, ParsedService, ParsedDependency}
 use Rattle.setup_model.specs.Ends.{full_names, is_known}
-use Rattle.setup_verification.specs.Verification.{verification}
+use Rattle.setup_reader.specs.Verification.{verification}
 use Rattle.setup_model.specs.Keys.{names_of, key_of}
-use Rattle.setup_verification.specs.Verification as verified
+use Rattle.setup_reader.specs.Verification as verified
 use Rattle.setup_model.specs.Fault.{RangeFault, out_of_range, host_thresholds, range, service_thresholds}
 use Rattle.setup_model.specs.Place.{host_place, service_place}
-use Rattle.setup_objects.specs.Numbering.{index_of_name, dependencies_among, numbered_host, numbered_service, hosts_in_order, services_in_order, names_in_order}
-use Rattle.setup_objects.specs.Numbering.{configuration_of_objects, configuration, numbered_dependency, all_dependencies}
+use Rattle.check_objects.specs.Numbering.{index_of_name, dependencies_among, numbered_host, numbered_service, hosts_in_order, services_in_order, names_in_order}
+use Rattle.check_objects.specs.Numbering.{configuration_of_objects, configuration, numbered_dependency, all_dependencies}
 use Rattle.setup_order.proofs.TestLemmas.{both_true, all_weaker}
 use Rattle.std.proofs.lemmas.List.Folds.{list_all-map}
 use Rattle.setup_model.proofs.ListLemmas.{list_any-map}
-use Rattle.setup_objects.proofs.NameLemmas.{HasNames, all_moved, all_passes, found, parted_name}
-use Rattle.setup_objects.proofs.NumberedLemmas.{AreAlike, host_names_are, pairs_are, full_names_are, known_in_order, full_name_in_order, parents_counted}
-use Rattle.setup_objects.proofs.NumberedLemmas.{listed_once, host_end, service_end, ends_alike, both_hold, alike_among}
-use Rattle.setup_objects.proofs.DependencyLemmas.{dependents_below, masters_below, masters_within_lists, length-dependency_lists, list_of_object}
-use Rattle.setup_objects.proofs.NumberLaws.{apart_hosts_ascend, apart_services_ascend, every_host, every_service, hosts_counted, services_counted}
+use Rattle.check_objects.proofs.NameLemmas.{HasNames, all_moved, all_passes, found, parted_name}
+use Rattle.check_objects.proofs.NumberedLemmas.{AreAlike, host_names_are, pairs_are, full_names_are, known_in_order, full_name_in_order, parents_counted}
+use Rattle.check_objects.proofs.NumberedLemmas.{listed_once, host_end, service_end, ends_alike, both_hold, alike_among}
+use Rattle.check_objects.proofs.DependencyLemmas.{dependents_below, masters_below, masters_within_lists, length-dependency_lists, list_of_object}
+use Rattle.check_objects.proofs.NumberLaws.{apart_hosts_ascend, apart_services_ascend, every_host, every_service, hosts_counted, services_counted}
 use Rattle.setup_model.proofs.RefusalLemmas.{all_of_each, first_ok, have_known_ends, rest_ok, still_ok}
-use Rattle.setup_verification.proofs.FaultlessLemmas.{IsFaultless, faultless, once}
+use Rattle.setup_reader.proofs.FaultlessLemmas.{IsFaultless, faultless, once}
 
 -- ---- hosts' names have no semicolon
 
@@ -74,8 +74,8 @@ number_by : (b : Bool) (i n : ℕ) → nat_lt i n ≡ b → 0 < n → nat_lt (un
 number_by true i n e h = e
 number_by false i n e h = grind (arith, nat_tests, h)
 
-number_below : (names : List (List ℕ)) (name : List ℕ) → 0 < length names → nat_lt (index_of_name names name) (length names) ≡ true
-number_below names name h =
+index_below : (names : List (List ℕ)) (name : List ℕ) → 0 < length names → nat_lt (index_of_name names name) (length names) ≡ true
+index_below names name h =
     number_by (nat_lt (position_or_len (bytes_eq name) names) (length names)) (position_or_len (bytes_eq name) names) (length names) refl h
 
 numbers_below : (names : List (List ℕ)) (n : ℕ) → n ≡ length names → 0 < length names → (ts : List (List ℕ))
@@ -83,7 +83,7 @@ numbers_below : (names : List (List ℕ)) (n : ℕ) → n ≡ length names → 0
 numbers_below names n e h [] = refl
 numbers_below names n e h (t ∷ ts) =
     let here : nat_lt (index_of_name names t) n ≡ true = ap (nat_lt (index_of_name names t)) e
-    ∙ number_below names t h in rw (here, numbers_below names n e h ts) refl
+    ∙ index_below names t h in rw (here, numbers_below names n e h ts) refl
 
 hosts_linked : (names : List (List ℕ)) (n : ℕ) → n ≡ length names → 0 < length names → (hs : List ParsedHost)
     → list_all (λ h. list_all (λ p. nat_lt p n) h.parents) (map (numbered_host names) hs) ≡ true
@@ -95,7 +95,7 @@ services_hosted : (names : List (List ℕ)) (n : ℕ) → n ≡ length names →
 services_hosted names n e h [] = refl
 services_hosted names n e h (x ∷ ss) =
     let here : nat_lt (index_of_name names x.host) n ≡ true = ap (nat_lt (index_of_name names x.host)) e
-    ∙ number_below names x.host h in rw (here, services_hosted names n e h ss) refl
+    ∙ index_below names x.host h in rw (here, services_hosted names n e h ss) refl
 
 names_length : (hs : List ParsedHost) → length (map (numbered_host (names_of hs)) hs) ≡ length (names_of hs)
 names_length hs = length-map hs (numbered_host (names_of hs)) ∙ sym (length-map hs (λ h. h.name))
@@ -280,10 +280,10 @@ numbered_few ds e =
 pub few_numbered : (ds : ParsedSetup) → verification ds ≡ Ok tt → object_count (configuration_of_objects ds) ≤ 4096
 few_numbered ds e = few_in_all (configuration_of_objects ds) (numbered_few ds e)
 
-some_name : (names : List (List ℕ)) (ds : List ParsedDependency) → have_known_ends names ds ≡ true → 0 < length ds → 0 < length names
-some_name names [] k h = absurd (omega arith)
-some_name [] (d ∷ ds) k h = cc
-some_name (n ∷ names) (d ∷ ds) k h = omega arith
+some_known_name : (names : List (List ℕ)) (ds : List ParsedDependency) → have_known_ends names ds ≡ true → 0 < length ds → 0 < length names
+some_known_name names [] k h = absurd (omega arith)
+some_known_name [] (d ∷ ds) k h = cc
+some_known_name (n ∷ names) (d ∷ ds) k h = omega arith
 
 -- where there is a dependency, there is an object
 some_object : (ds : ParsedSetup) → verification ds ≡ Ok tt → 0 < length (all_dependencies ds) → 0 < object_count (configuration_of_objects ds)
@@ -295,9 +295,9 @@ some_object ds e h =
     let services = length-map (services_in_order ds.services) (numbered_service ns) in
     let parts = length-append ds.service_dependencies ds.host_dependencies in
     elim (cases_lt 0 (length ds.service_dependencies)) [
-      | inl l ↦ let n = some_name (full_names ds.services) ds.service_dependencies f.service_ends l in
+      | inl l ↦ let n = some_known_name (full_names ds.services) ds.service_dependencies f.service_ends l in
           omega (arith, count, services, n, length-map ds.services (λ s. full_name (key_of s)), services_counted ds.services)
-      | inr l ↦ let n = some_name (names_of ds.hosts) ds.host_dependencies f.host_ends (omega (arith, l, h, parts)) in
+      | inr l ↦ let n = some_known_name (names_of ds.hosts) ds.host_dependencies f.host_ends (omega (arith, l, h, parts)) in
           omega (arith, count, hosts, n, length-map ds.hosts (λ h. h.name), hosts_counted ds.hosts)
     ]
 

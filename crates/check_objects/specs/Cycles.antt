@@ -3,7 +3,7 @@ use Rattle.std.specs.Prelude.{◌≡◌, ℕ, ◌<◌, ◌≤◌, false, List, [
 use Rattle.setup_model.specs.declared.place.Part.{Part}
 use Rattle.setup_model.specs.declared.place.Part.TheVariants as part
 use Rattle.setup_model.specs.Fault.{Fault, dependency_cycle, parent_cycle}
-use Rattle.setup_objects.specs.Configuration.{Configuration, NamedObject, host_count, masters_of, objects_of, parents_by_host}
+use Rattle.check_objects.specs.Configuration.{Configuration, NamedObject, host_count, masters_of, objects_of, parents_by_host}
 use Rattle.setup_order.specs.Cycles.{has_cycle}
 use Rattle.setup_order.specs.Results.{IsCycle}
 

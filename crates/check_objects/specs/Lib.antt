@@ -5,10 +5,10 @@ pub use Rattle.setup_model.specs.Name
 pub use Rattle.setup_model.specs.Ends
 pub use Rattle.setup_model.specs.LoadError
 pub use Rattle.setup_reader.specs.JsonTree
-pub use Rattle.setup_verification.specs.Verification
-pub use Rattle.setup_objects.specs.Configuration
-pub use Rattle.setup_objects.specs.Numbering
-pub use Rattle.setup_objects.specs.Entries
+pub use Rattle.setup_reader.specs.Verification
+pub mod Configuration
+pub mod Numbering
+pub mod Entries
 pub mod Links
 pub mod Cycles
 pub mod Setup

@@ -2,7 +2,7 @@
 use Rattle.std.specs.Prelude.{ℕ, List, map}
 use Rattle.std.specs.List.{flat_map, range_with_len}
 use Rattle.setup_model.specs.declared.dependency.Dependency.{Dependency}
-use Rattle.setup_objects.specs.Configuration.{Configuration, Host, name_of, object_count, dependencies_of}
+use Rattle.check_objects.specs.Configuration.{Configuration, Host, name_of, object_count, dependencies_of}
 use Rattle.setup_model.specs.ParsedSetup.{ParsedDependency}
 
 -- a host's name, and the names of its parents

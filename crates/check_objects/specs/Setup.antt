@@ -4,7 +4,7 @@ use Rattle.std.specs.Prelude.{◌≡◌, false, ℕ, true, List, length, Option,
 use Rattle.serde_json.specs.Data.{Data}
 use Rattle.setup_model.specs.declared.error.LoadError.{LoadError}
 use Rattle.setup_model.specs.declared.error.LoadError.TheVariants as errors
-use Rattle.setup_objects.specs.Configuration.{Configuration, masters_of, parents_by_host}
+use Rattle.check_objects.specs.Configuration.{Configuration, masters_of, parents_by_host}
 use Rattle.setup_order.specs.Cycles.{has_cycle}
 use Rattle.setup_model.specs.Agreement.{◌>>=◌, with_error}
 use Rattle.setup_model.specs.ParsedSetup.{ParsedSetup}
@@ -12,8 +12,8 @@ use Rattle.setup_model.specs.Fault as faults
 use Rattle.setup_model.specs.Fault.{Fault, load_error}
 use Rattle.setup_reader.specs.JsonTree.{tree_of}
 use Rattle.setup_reader.specs.Reading.{parsed_setup}
-use Rattle.setup_verification.specs.Verification.{verification}
-use Rattle.setup_objects.specs.Numbering.{configuration}
+use Rattle.setup_reader.specs.Verification.{verification}
+use Rattle.check_objects.specs.Numbering.{configuration}
 use Rattle.check_objects.specs.Cycles.{IsCycleFault, IsParentCycle}
 
 -- the tree of a document's bytes

@@ -1,8 +1,8 @@
 -- The setup of the code, as contracts see it.
 use Rattle.std.specs.Prelude.{map}
-use Rattle.setup_objects.specs.Configuration.{Configuration, IsSetup, masters_of}
+use Rattle.check_objects.specs.Configuration.{Configuration, IsSetup, masters_of}
 use Rattle.setup_order.specs.Orders.{IsOrder}
-use Rattle.setup_objects.specs.Entries.{host_entry, service_entry}
+use Rattle.check_objects.specs.Entries.{host_entry, service_entry}
 use Rattle.check_objects.specs.declared.setup.Setup.TheInside.{Inside}
 
 abbrev pub configuration_of : Inside → Configuration

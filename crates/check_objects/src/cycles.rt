@@ -3,20 +3,20 @@
 ghost use Rattle.std.specs.Prelude.{◌≡◌, ◌<◌, ◌≤◌, ℕ, List, IfOk, Ok, Some, get_or, length, map, string_bytes, true};
 ghost use Rattle.setup_model.specs.ParsedSetup.{ParsedSetup};
 ghost use Rattle.setup_model.specs.Fault.{view_of};
-ghost use Rattle.setup_verification.specs.Verification.{verification};
-ghost use Rattle.setup_objects.specs.Configuration.{masters_of, parents_by_host};
-ghost use Rattle.setup_objects.specs.Entries.{host_entry, objects_in, service_entry};
-ghost use Rattle.setup_objects.specs.Numbering.{configuration};
+ghost use Rattle.setup_reader.specs.Verification.{verification};
+ghost use Rattle.check_objects.specs.Configuration.{masters_of, parents_by_host};
+ghost use Rattle.check_objects.specs.Entries.{host_entry, objects_in, service_entry};
+ghost use Rattle.check_objects.specs.Numbering.{configuration};
 ghost use Rattle.check_objects.specs.Cycles.{name_among, part_at, IsParentCycle, IsToldFromLeast};
 ghost use Rattle.check_objects.specs.Setup.{AreRefusedFor};
 ghost use Rattle.setup_order.specs.Cycles.{has_cycle};
 ghost use Rattle.setup_order.specs.Results.{IsCycle};
 ghost use Rattle.setup_model.specs.ParsedViews.{parsed_view};
 
+use crate::object_index::{Host, Service};
 use crate::setup::object_entry;
 use indexmap::IndexMap;
 use setup_model::{Fault, ParsedSetup, Part};
-use setup_objects::{Host, Service};
 use std::alloc::{AllocError, Global};
 
 /// A cycle of dependencies as a fault, from its objects' numbers. An Err means out of memory.

@@ -3,12 +3,12 @@
 ghost use Rattle.std.specs.Prelude.{◌≡◌, ◌<◌, ℕ, List, Ok, Some, None, map, bytes_eq, slice_get};
 ghost use Rattle.std.specs.List.{filter};
 ghost use Rattle.std.specs.List.Sorted.{IsPermutation, IsStrictlySortedBy};
-ghost use Rattle.setup_objects.specs.Configuration.{Configuration, IsSetup, Service, number_by_name, name_of, pair_of, object_count, host_count};
+ghost use Rattle.check_objects.specs.Configuration.{Configuration, IsSetup, Service, number_by_name, name_of, pair_of, object_count, host_count};
 ghost use Rattle.setup_model.specs.ParsedSetup.{ParsedSetup};
-ghost use Rattle.setup_verification.specs.Verification.{verification};
+ghost use Rattle.setup_reader.specs.Verification.{verification};
 ghost use Rattle.setup_model.specs.Keys.{key_of, is_same_key, names_of, first_repeat};
 ghost use Rattle.check_objects.specs.Links.{named_parents, named_dependencies, all_named_dependencies};
-ghost use Rattle.setup_objects.specs.Numbering.{all_dependencies, configuration, hosts_in_order, services_in_order, smaller_count};
+ghost use Rattle.check_objects.specs.Numbering.{all_dependencies, configuration, hosts_in_order, services_in_order, smaller_count};
 ghost use Rattle.setup_model.specs.Name.{text_order, pair_order};
 
 /// Numbers follow the order of names.

@@ -11,13 +11,17 @@
 //!
 //! The modules:
 //! - `document`: reads the tree;
+//! - `object_index`: numbers the objects;
+//! - `dependency_lists`: the dependencies of each object by number, and an order in which masters come first;
 //! - `setup`: makes a setup from the tree;
 //! - `cycles`: makes a fault from a cycle;
 //! - `laws`: the properties of numbers and links.
 
 mod cycles;
+mod dependency_lists;
 mod document;
 pub mod laws;
+mod object_index;
 mod setup;
 
 pub use document::read_document;

@@ -1,32 +1,30 @@
 //! The setup: the objects that are checked, with their names and numbers, and their links.
 
-ghost use Rattle.std.specs.Prelude.{◌≡◌, ◌<◌, ◌≤◌, length, map, Ok, option_map, slice_get, Some, IfSome, IfOk, IfErr, OnOk, Err, ◌==◌, All, false, string_bytes};
-ghost use Rattle.setup_objects.specs.Configuration.{Configuration, object_count, host_count, objects_of, number_by_name, name_of, host_of, parents_of};
-ghost use Rattle.setup_objects.specs.Configuration.{dependencies_of, masters_in, masters_of, parents_by_host, IsSetup};
+ghost use Rattle.std.specs.Prelude.{◌≡◌, ◌<◌, ◌≤◌, length, map, Ok, option_map, slice_get, Some, IfSome, IfOk, IfErr, OnOk, Err, ◌==◌, All, false};
+ghost use Rattle.std.specs.Prelude.{string_bytes};
+ghost use Rattle.check_objects.specs.Configuration.{Configuration, object_count, host_count, objects_of, number_by_name, name_of, host_of, parents_of};
+ghost use Rattle.check_objects.specs.Configuration.{dependencies_of, masters_in, masters_of, parents_by_host, IsSetup};
 ghost use Rattle.setup_order.specs.Cycles.{has_cycle};
 ghost use Rattle.setup_order.specs.Orders.{IsOrder};
-ghost use Rattle.setup_objects.specs.Numbering.{configuration};
+ghost use Rattle.check_objects.specs.Numbering.{configuration};
 ghost use Rattle.check_objects.specs.WellFormed.{configuration_of, IsWellFormed};
 ghost use Rattle.check_objects.specs.Setup.{setup_of, setup_of_tree, without_cycles, AreRefusedFor, IsParentVerdict, IsRefusedFor, IsRefusedTree};
-ghost use Rattle.setup_verification.specs.Verification.{verification};
+ghost use Rattle.setup_reader.specs.Verification.{verification};
 ghost use Rattle.setup_model.specs.ParsedViews.{parsed_view};
-ghost use Rattle.setup_objects.specs.Entries.{host_entry, named_object, objects_in, service_entry};
+ghost use Rattle.check_objects.specs.Entries.{host_entry, named_object, objects_in, service_entry};
 ghost use Rattle.setup_model.specs.LoadError.{IsExpectedResult};
 ghost use Rattle.setup_model.specs.Fault.{non_memory_fault, view_of};
 ghost use Rattle.serde_json.specs.View.{view};
 
 use crate::cycles::{dependency_cycle, parent_cycle};
+use crate::dependency_lists::{Dependencies, dependency_order, list_dependencies, master_links};
 use crate::document::read_document;
+use crate::object_index::{Host, Parents, Service, number_objects, object_number};
 use indexmap::IndexMap;
 use serde_json::Value;
 use setup_model::{Dependency, Fault, LoadError, Object, Options, ParsedSetup};
-use setup_objects::{
-    Dependencies, Host, Parents, Service, dependency_order, list_dependencies, master_links,
-    number_objects, object_number,
-};
 use setup_order::{OrderOrCycle, topological_order};
-use setup_reader::parse_setup;
-use setup_verification::verify;
+use setup_reader::{parse_setup, verify};
 use smallvec::SmallVec;
 use std::alloc::{AllocError, Global};
 use std::marker::Model;

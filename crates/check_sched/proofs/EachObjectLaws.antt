@@ -5,7 +5,7 @@ use Rattle.std.specs.Prelude.{slice_get}
 use Rattle.std.specs.List.{enumerate_from}
 use Rattle.std.proofs.lemmas.List.{take_more}
 use Rattle.setup_model.specs.declared.parsed_setup.Object.{Object}
-use Rattle.setup_objects.proofs.NameLemmas.{item_at}
+use Rattle.check_objects.proofs.NameLemmas.{item_at}
 use Rattle.check_objects.specs.Configuration.{Configuration, NamedObject, name_of, object_count, objects_of}
 use Rattle.check_states.specs.declared.standing.Standing.{Standing}
 use Rattle.check_states.specs.declared.state.State as rules

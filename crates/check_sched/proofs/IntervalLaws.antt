@@ -7,7 +7,7 @@ use Rattle.std.proofs.Math.Nat.{mul-le-mul}
 use Rattle.std.proofs.lemmas.List.{length-map, take_more}
 use Rattle.std.proofs.lemmas.Option.{get_or_from_slice_get, slice_get-map}
 use Rattle.setup_model.specs.declared.parsed_setup.Object.{Object}
-use Rattle.setup_objects.proofs.NameLemmas.{item_at}
+use Rattle.check_objects.proofs.NameLemmas.{item_at}
 use Rattle.check_objects.specs.Configuration.{Configuration, IsSetup, NamedObject, is_object_in_range, object_count, objects_of}
 use Rattle.check_states.specs.declared.standing.Standing.{Standing}
 use Rattle.check_states.specs.Standing.{is_soft_problem}

@@ -2,7 +2,7 @@
 use Rattle.std.proofs.Common.{◌≡◌, ℕ, zero, suc, ◌+◌, ◌<◌, ◌≤◌, ◌^◌, List, [], ◌∷◌, map, Option, Some, None, false, true, unwrap_or, refl, sym, ap, ◌∙◌, arith}
 use Rattle.std.specs.Prelude.{slice_get, zip}
 use Rattle.std.proofs.lemmas.List.{length-replicate}
-use Rattle.setup_objects.proofs.NameLemmas.{item_at}
+use Rattle.check_objects.proofs.NameLemmas.{item_at}
 use Rattle.check_objects.specs.Configuration.{Configuration, IsSetup, NamedObject, host_count, name_of, object_count, objects_of}
 use Rattle.check_states.specs.Standing.{pending_standing}
 use Rattle.check_saved_state.specs.Saved.{Saved, saved_by_name}

@@ -13,7 +13,7 @@ use Rattle.setup_model.specs.declared.parsed_setup.Object.{Object}
 use Rattle.setup_model.specs.Name.{full_name, is_host_name, is_name}
 use Rattle.check_objects.specs.Configuration.{Configuration, Host, IsSetup, NamedObject, Service, host_count, named_host, named_service, object_count}
 use Rattle.check_objects.specs.Configuration.{objects_of, pair_of}
-use Rattle.setup_objects.proofs.NameLemmas.{parted_name}
+use Rattle.check_objects.proofs.NameLemmas.{parted_name}
 use Rattle.check_states.specs.declared.standing.Kind.{Kind}
 use Rattle.check_states.specs.declared.standing.Kind.TheVariants as kind
 use Rattle.check_states.specs.declared.standing.Standing.{Standing}

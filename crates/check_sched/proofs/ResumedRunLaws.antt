@@ -9,7 +9,7 @@ use Rattle.std.proofs.lemmas.List.Sums.{sum_by-append, sum_by-cons}
 use Rattle.ticket_steps.specs.declared.books.Entry.{Entry}
 use Rattle.ticket_steps.specs.History.{replay, IsLegal}
 use Rattle.setup_model.specs.declared.parsed_setup.Object.{Object}
-use Rattle.setup_objects.proofs.NameLemmas.{item_at}
+use Rattle.check_objects.proofs.NameLemmas.{item_at}
 use Rattle.check_objects.specs.Configuration.{Configuration, NamedObject, host_count, name_of, object_count, objects_of}
 use Rattle.check_states.specs.declared.standing.Standing.{Standing}
 use Rattle.check_states.specs.Standing.{is_soft_problem, pending_standing}

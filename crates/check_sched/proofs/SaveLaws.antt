@@ -9,7 +9,7 @@ use Rattle.std.proofs.lemmas.Option.{slice_get_within}
 use Rattle.setup_model.specs.Name.{is_name}
 use Rattle.check_objects.specs.Configuration.{Configuration, Host, IsSetup, NamedObject, Service, name_of, named_host, named_service}
 use Rattle.check_objects.specs.Configuration.{objects_of, pair_of}
-use Rattle.setup_objects.proofs.NameLemmas.{name_of_host}
+use Rattle.check_objects.proofs.NameLemmas.{name_of_host}
 use Rattle.check_sched.specs.Saved.{saved_object, saved_of}
 use Rattle.check_saved_state.specs.Saved.{IsFullName, IsSaved, IsSavedObject, SavedObject}
 use Rattle.check_sched.specs.Scheduling.{opening_object}

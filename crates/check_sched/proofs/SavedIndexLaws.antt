@@ -6,7 +6,7 @@ use Rattle.std.specs.List.{list_any}
 use Rattle.std.proofs.lemmas.Bool.{eqb-false, eqb-true}
 use Rattle.std.proofs.lemmas.List.{drop_more, get_or-replicate, get_or-set_other, get_or-set_same, length-replicate, length-set}
 use Rattle.check_objects.specs.Configuration.{Configuration, IsSetup, NamedObject, name_of, number_by_name, object_count, objects_of}
-use Rattle.setup_objects.proofs.NameLemmas.{found, name_leads_back, names_of_setup, nowhere, same_text}
+use Rattle.check_objects.proofs.NameLemmas.{found, name_leads_back, names_of_setup, nowhere, same_text}
 use Rattle.check_saved_state.specs.Saved.{SavedObject}
 use Rattle.check_sched.specs.SavedIndexes.{AreSavedIndexes}
 use Rattle.check_sched.proofs.EachObjectLaws.{name_is}

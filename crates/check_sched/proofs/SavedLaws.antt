@@ -8,7 +8,7 @@ use Rattle.std.proofs.lemmas.Bool.{eq-eqb}
 use Rattle.std.proofs.lemmas.Option.{slice_get_within}
 use Rattle.std.proofs.lemmas.Slice.Eq.{bytes_eq-Decides}
 use Rattle.check_objects.specs.Configuration.{Configuration, IsSetup, NamedObject, host_count, name_of, number_by_name, objects_of}
-use Rattle.setup_objects.proofs.NameLemmas.{name_leads_back, names_of_setup, same_text}
+use Rattle.check_objects.proofs.NameLemmas.{name_leads_back, names_of_setup, same_text}
 use Rattle.check_states.specs.declared.standing.Kind.{Kind}
 use Rattle.check_states.specs.declared.standing.Kind.TheVariants as kind
 use Rattle.check_states.specs.declared.standing.Standing.{Standing}

@@ -9,7 +9,7 @@ use Rattle.std.proofs.lemmas.List.Folds.{list_all-append, list_all-map}
 use Rattle.std.proofs.lemmas.List.Sums.{AllPass-from_list_all, list_all-from_AllPass}
 use Rattle.setup_model.specs.Name.{full_name, is_name}
 use Rattle.check_objects.specs.Configuration.{Configuration, Service, IsSetup, NamedObject, host_count, name_of, named_host, named_service, objects_of, pair_of}
-use Rattle.setup_objects.proofs.NameLemmas.{all_passes, item_at, name_of_host}
+use Rattle.check_objects.proofs.NameLemmas.{all_passes, item_at, name_of_host}
 use Rattle.check_saved_state.proofs.RangeLemmas.{short_name}
 
 abbrev is_short : List ℕ → Bool

@@ -7,7 +7,7 @@ use Rattle.setup_model.specs.ParsedSetup.{ParsedSetup}
 use Rattle.setup_model.specs.Fault.{load_error}
 use Rattle.setup_reader.specs.Reading.{parsed_setup}
 use Rattle.setup_reader.proofs.ReadLemmas.{next, ok_is}
-use Rattle.setup_verification.specs.Verification.{verification}
+use Rattle.setup_reader.specs.Verification.{verification}
 use Rattle.check_objects.specs.Configuration.{Configuration, IsSetup, masters_of, parents_by_host}
 use Rattle.check_objects.specs.Numbering.{configuration}
 use Rattle.check_objects.specs.Setup.{document_tree, verified_setup, setup_of, setup_of_tree, without_cycles, without_dependency_cycle, without_parent_cycle}

@@ -3,3 +3,5 @@ pub mod KeyLemmas
 pub mod ShapeLemmas
 pub mod ReadLemmas
 pub mod FeedLemmas
+pub mod VerificationLemmas
+pub mod FaultlessLemmas

@@ -8,3 +8,4 @@ pub mod Shapes
 pub mod Reading
 pub mod Places
 pub mod Feeds
+pub mod Verification

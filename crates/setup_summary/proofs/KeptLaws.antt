@@ -10,7 +10,7 @@ use Rattle.std.proofs.lemmas.List.Sums.{length-filter}
 use Rattle.std.proofs.lemmas.Map.Made.{is_member-filter, length-IsIntersection}
 use Rattle.std.proofs.lemmas.Map.Steps.{list_any_congr}
 use Rattle.setup_model.proofs.ListLemmas.{list_any-map, sum_by-map}
-use Rattle.setup_objects.proofs.NameLemmas.{found, nowhere}
+use Rattle.check_objects.proofs.NameLemmas.{found, nowhere}
 use Rattle.check_objects.specs.Configuration.{Configuration, IsSetup, NamedObject, number_by_name, objects_of}
 use Rattle.check_saved_state.specs.Saved.{IsSaved, Saved, SavedObject, saved_by_name}
 use Rattle.check_sched.proofs.SavedLaws.{alone, text_is}

@@ -7,7 +7,7 @@ use Rattle.std.proofs.lemmas.List.{get_or-set_other, get_or-set_same, get_or_def
 use Rattle.std.proofs.lemmas.Option.{slice_get-get_or, slice_get_within}
 use Rattle.setup_model.specs.declared.parsed_setup.Object.{Object}
 use Rattle.check_objects.specs.Configuration.{Configuration, IsSetup, NamedObject, name_of, number_by_name, object_count, objects_of}
-use Rattle.setup_objects.proofs.NameLemmas.{item_at}
+use Rattle.check_objects.proofs.NameLemmas.{item_at}
 use Rattle.check_saved_state.specs.Saved.{Saved, SavedObject, saved_by_name}
 use Rattle.check_sched.proofs.EachObjectLaws.{name_is, object_is, slice_each}
 use Rattle.check_sched.proofs.SavedIndexLaws.{apart, find_first, from_place, number_is, number_names}

@@ -1,6 +1,6 @@
 use Rattle.std.proofs.Common.{ap, ◌∙◌, map, string_bytes}
 use Rattle.std.proofs.lemmas.List.{take_all}
-use Rattle.setup_objects.specs.Entries.{objects_in}
+use Rattle.check_objects.specs.Entries.{objects_in}
 use Rattle.check_objects.specs.Cycles.{name_among}
 use Rattle.check_objects.proofs.NamedCycleLemmas.{rotated_names}
 use Rattle.check_objects.proofs.cycles.cycle_names.Goals as goal

@@ -1,5 +1,5 @@
 use Rattle.std.proofs.Common.{◌≡◌, map, take, string_bytes}
-use Rattle.setup_objects.specs.Entries.{objects_in}
+use Rattle.check_objects.specs.Entries.{objects_in}
 use Rattle.check_objects.specs.Cycles.{name_among}
 use Rattle.check_objects.proofs.cycles.cycle_names.Given as goal
 

@@ -1,7 +1,7 @@
 use Rattle.std.proofs.Common.{◌<◌, ap, get_or, length, subst, sym, ◌∙◌}
 use Rattle.setup_model.specs.ParsedViews.{parsed_view}
-use Rattle.setup_objects.specs.Configuration.{masters_of}
-use Rattle.setup_objects.specs.Numbering.{configuration}
+use Rattle.check_objects.specs.Configuration.{masters_of}
+use Rattle.check_objects.specs.Numbering.{configuration}
 use Rattle.check_objects.specs.Cycles.{part_at}
 use Rattle.check_objects.proofs.CycleLemmas.{cyclic_dependencies}
 use Rattle.check_objects.proofs.NamedCycleLemmas.{cycle_below, host_count_is, named_cycle, objects_are, same_part}

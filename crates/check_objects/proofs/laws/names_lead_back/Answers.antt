@@ -1,4 +1,4 @@
-use Rattle.setup_objects.proofs.NameLemmas.{name_leads_back, names_of_setup}
+use Rattle.check_objects.proofs.NameLemmas.{name_leads_back, names_of_setup}
 use Rattle.check_objects.proofs.laws.names_lead_back.Goals as goal
 
 pub returns : goal.returns

@@ -1,4 +1,4 @@
-use Rattle.setup_objects.proofs.CountLaws.{host_counted, service_counted}
+use Rattle.check_objects.proofs.CountLaws.{host_counted, service_counted}
 use Rattle.check_objects.proofs.laws.numbers_are_counts.Goals as goal
 
 pub returns-clause-hosts : goal.returns-clause-hosts

@@ -1,5 +1,5 @@
-use Rattle.setup_objects.proofs.NumberLaws.{every_host, every_service, apart_hosts_ascend, apart_services_ascend}
-use Rattle.setup_verification.proofs.FaultlessLemmas.{once}
+use Rattle.check_objects.proofs.NumberLaws.{every_host, every_service, apart_hosts_ascend, apart_services_ascend}
+use Rattle.setup_reader.proofs.FaultlessLemmas.{once}
 use Rattle.check_objects.proofs.laws.numbers_follow_names.Goals as goal
 
 pub returns-clause-hosts : goal.returns-clause-hosts

@@ -2,8 +2,8 @@ use Rattle.std.proofs.Common.{◌≡◌, ℕ, ◌≤◌, List, sym, ap, ◌∙�
 use Rattle.std.proofs.lemmas.List.{length-map}
 use Rattle.setup_model.specs.ParsedSetup.{ParsedSetup}
 use Rattle.setup_model.specs.ParsedViews.{parsed_view}
-use Rattle.setup_verification.specs.Verification.{verification}
-use Rattle.setup_objects.specs.Numbering.{configuration}
+use Rattle.setup_reader.specs.Verification.{verification}
+use Rattle.check_objects.specs.Numbering.{configuration}
 use Rattle.setup_order.specs.Cycles.{has_cycle}
 use Rattle.setup_order.proofs.ChainLemmas.{order_has_no_cycle}
 use Rattle.check_objects.proofs.SetupLemmas.{few_host_entries, hosts_are_linked, parents_within}

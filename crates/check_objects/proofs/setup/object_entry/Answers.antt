@@ -1,7 +1,7 @@
 use Rattle.std.proofs.Common.{sym, ap, ◌∙◌, ◌-◌, ◌≤◌, length, option_map, arith}
 use Rattle.std.specs.Prelude.{slice_get}
 use Rattle.std.specs.Map.Iter.{deref_pair}
-use Rattle.setup_objects.proofs.ObjectLemmas.{object_front, object_back}
+use Rattle.check_objects.proofs.ObjectLemmas.{object_front, object_back}
 use Rattle.check_objects.proofs.setup.object_entry.Goals as goal
 
 pub returns-then-index-len : goal.returns-then-index-len

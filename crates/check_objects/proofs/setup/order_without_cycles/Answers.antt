@@ -1,6 +1,6 @@
 use Rattle.std.proofs.Common.{map, string_bytes}
 use Rattle.setup_model.specs.ParsedViews.{parsed_view}
-use Rattle.setup_objects.specs.Numbering.{configuration}
+use Rattle.check_objects.specs.Numbering.{configuration}
 use Rattle.check_objects.proofs.CycleLemmas.{acyclic_masters, parents_refuse}
 use Rattle.check_objects.proofs.SetupLemmas.{has_lists, few_lists, masters_within}
 use Rattle.check_objects.proofs.setup.order_without_cycles.Goals as goal

@@ -1,5 +1,5 @@
 use Rattle.std.proofs.Common.{◌≡◌, map, take}
-use Rattle.setup_objects.specs.Entries.{host_entry}
+use Rattle.check_objects.specs.Entries.{host_entry}
 use Rattle.check_objects.proofs.setup.parent_links.Given as goal
 
 abbrev pub invariant-loop-number : goal.invariant-loop-number

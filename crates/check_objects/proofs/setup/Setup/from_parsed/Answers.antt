@@ -4,10 +4,10 @@ use Rattle.setup_model.specs.declared.dependency.Dependency.{Dependency}
 use Rattle.setup_model.specs.declared.parsed_setup.ParsedHost.{ParsedHost}
 use Rattle.setup_model.specs.ParsedSetup.{ParsedSetup}
 use Rattle.setup_model.specs.ParsedViews.{parsed_view, host}
-use Rattle.setup_verification.specs.Verification.{verification}
-use Rattle.setup_verification.proofs.FaultlessLemmas.{faultless, once}
-use Rattle.setup_objects.specs.Configuration.{Host, Service, IsSetup, objects_of, named_host, named_service}
-use Rattle.setup_objects.specs.Numbering.{configuration, configuration_of_objects, dependencies_by_number}
+use Rattle.setup_reader.specs.Verification.{verification}
+use Rattle.setup_reader.proofs.FaultlessLemmas.{faultless, once}
+use Rattle.check_objects.specs.Configuration.{Host, Service, IsSetup, objects_of, named_host, named_service}
+use Rattle.check_objects.specs.Numbering.{configuration, configuration_of_objects, dependencies_by_number}
 use Rattle.check_objects.proofs.EndLemmas.{host_ends, names_apart, service_ends}
 use Rattle.check_objects.proofs.CycleLemmas.{acyclic_masters, acyclic_setup}
 use Rattle.check_objects.proofs.SetupLemmas.{configuration_is_setup, few_numbered, parted_from}

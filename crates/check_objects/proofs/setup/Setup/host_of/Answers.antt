@@ -3,8 +3,8 @@ use Rattle.std.specs.Prelude.{nat_lt}
 use Rattle.std.specs.Map.Iter.{deref_pair}
 use Rattle.std.proofs.lemmas.Bool.{ltb-true}
 use Rattle.std.proofs.lemmas.Option.{slice_get-map}
-use Rattle.setup_objects.specs.Entries.{host_entry, service_entry}
-use Rattle.setup_objects.proofs.NameLemmas.{all_passes}
+use Rattle.check_objects.specs.Entries.{host_entry, service_entry}
+use Rattle.check_objects.proofs.NameLemmas.{all_passes}
 use Rattle.check_objects.proofs.setup.Setup.host_of.Goals as goal
 
 pub returns-clause-within : goal.returns-clause-within

@@ -5,8 +5,8 @@ use Rattle.std.proofs.lemmas.Bool.{ltb-true}
 use Rattle.std.proofs.lemmas.List.Elements.{All-weaker}
 use Rattle.std.proofs.lemmas.List.Sums.{AllPass-from_list_all}
 use Rattle.std.proofs.lemmas.Option.{slice_get-map}
-use Rattle.setup_objects.specs.Entries.{host_entry}
-use Rattle.setup_objects.proofs.NameLemmas.{all_passes}
+use Rattle.check_objects.specs.Entries.{host_entry}
+use Rattle.check_objects.proofs.NameLemmas.{all_passes}
 use Rattle.check_objects.proofs.setup.Setup.parents.Goals as goal
 
 pub returns-in-Some-clause-within : goal.returns-in-Some-clause-within

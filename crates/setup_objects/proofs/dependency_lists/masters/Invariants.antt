@@ -1,6 +1,0 @@
-use Rattle.std.proofs.Common.{◌≡◌, take}
-use Rattle.setup_objects.specs.Configuration.{masters_in}
-use Rattle.setup_objects.proofs.dependency_lists.masters.Given as goal
-
-abbrev pub invariant-loop-dependency : goal.invariant-loop-dependency
-invariant-loop-dependency l = l.masters.items ≡ masters_in (take l.dependency-index l.dependencies)

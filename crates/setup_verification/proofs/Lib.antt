@@ -1,2 +1,0 @@
-pub mod VerificationLemmas
-pub mod FaultlessLemmas

@@ -1,8 +1,0 @@
-use Rattle.std.proofs.Common.{◌≡◌, map, drop}
-use Rattle.setup_model.specs.Agreement.{each, each_from}
-use Rattle.setup_model.specs.ParsedViews.{service}
-use Rattle.setup_verification.specs.Verification.{service_range_test}
-use Rattle.setup_verification.proofs.ranges.verify_service_ranges.Given as goal
-
-abbrev pub invariant-loop-index : goal.invariant-loop-index
-invariant-loop-index l = each service_range_test (map service l.services) ≡ each_from service_range_test l.index (map service (drop l.index l.services))
