@@ -1,4 +1,4 @@
--- Histories that go on from one book to the next, renewed or resumed.
+-- Histories that continue from one book to the next, renewed or resumed.
 use Rattle.std.proofs.Common.{◌≡◌, ℕ, List, [], ◌∷◌, ◌++◌, refl, sym, ap, subst, ◌∙◌}
 use Rattle.ticket_steps.specs.declared.books.Entry.{Entry}
 use Rattle.ticket_steps.specs.History.{replay, IsLegal}

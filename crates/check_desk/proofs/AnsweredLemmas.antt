@@ -1,4 +1,4 @@
--- A call that was answered: its entry stands in the history that its pass has seen, so its turn is in the schedule.
+-- A call that was answered: its entry stands in the history that its pass has seen, so the schedule has it as a recorded call.
 use Rattle.std.proofs.Common.{◌≡◌, ℕ, ◌+◌, List, [], ◌∷◌, ◌++◌, length, length-append, append_assoc, sym, ap, ◌∙◌, subst, arith}
 use mathlib.Core.List.{IsPrefix}
 use mathlib.Core.Option.{some, some-injective}
@@ -7,8 +7,8 @@ use Rattle.ticket_steps.specs.declared.books.Entry.{Entry}
 use Rattle.ticket_steps.specs.History.{entry}
 use Rattle.ticket_steps.specs.Schedules.{Schedule}
 use Rattle.ticket_steps.proofs.Lists.{at_middle}
-use Rattle.ticket_steps.proofs.OriginLemmas.{turn_of_entry}
-use Rattle.ticket_steps.proofs.TurnLemmas.{turn_entry}
+use Rattle.ticket_steps.proofs.OriginLemmas.{call_of_entry}
+use Rattle.ticket_steps.proofs.RecordedCallLemmas.{entry_of_call}
 use Rattle.ticket_lock.specs.Callers.{Caller}
 use Rattle.check_sched.specs.declared.call.Call.{Call}
 use Rattle.check_sched.specs.declared.call.Reply.{Reply}
@@ -28,17 +28,17 @@ made_after opened s is call reply before after asked more =
     let parts : s.end.book.entries ≡ asked.history ++ mine ∷ more.0 = sym all ∙ append_assoc asked.history (mine ∷ []) more.0 in
     let count : length s.end.book.entries ≡ length asked.history + length (mine ∷ more.0) =
     ap (λ (es : List (Entry Call Reply)). length es) parts ∙ length-append asked.history (mine ∷ more.0) in
-    let found = turn_of_entry kept_book s is.schedule (length asked.history) (omega (arith, count)) in
+    let found = call_of_entry kept_book s is.schedule (length asked.history) (omega (arith, count)) in
     let here : get_elem? s.end.book.entries (length asked.history) ≡ some mine =
     subst (λ (es : List (Entry Call Reply)). get_elem? es (length asked.history) ≡ some mine) (sym parts) (at_middle asked.history more.0 mine) in
     let there : get_elem? s.end.book.entries (length asked.history) ≡ some (entry found.0.own found.0.call found.0.reply) =
     subst (λ (n : ℕ). get_elem? s.end.book.entries n ≡ some (entry found.0.own found.0.call found.0.reply)) found.2
-    (turn_entry kept_book s is.schedule found.0 found.1) in
+    (entry_of_call kept_book s is.schedule found.0 found.1) in
     let same : entry found.0.own found.0.call found.0.reply ≡ mine = some-injective _ _ (sym there ∙ here) in
     let longer : length asked.history ≡ length before.seen + length asked.follows.0.0 =
     ap (λ (es : List (Entry Call Reply)). length es) (sym asked.follows.0.1) ∙ length-append before.seen asked.follows.0.0 in
     record {
-      turn = found.0;
+      made = found.0;
       is = found.1;
       own_is = ap (λ (e : Entry Call Reply). e.pass) same;
       call_is = ap (λ (e : Entry Call Reply). e.call) same;

@@ -18,7 +18,7 @@ use Rattle.check_desk.specs.declared.passes.Pass.{Pass}
 use Rattle.check_desk.specs.Desks.{AreNewPassesWith, IsHistoryOf, IsPassOf, calls_of, passes_of}
 use Rattle.check_desk.specs.Passes.{pass_of, new_pass_with}
 
--- a caller for the numbers from this one on, with so many calls for each
+-- a caller for the numbers from this one on, with this many calls for each
 abbrev pub rest_from : ℕ → ℕ → ℕ → Caller Call Reply
 rest_from calls n count = caller n (numbers_from n count) (count * calls) 0 true []
 
@@ -31,7 +31,7 @@ new_push calls desk n (q ∷ ps) p h is e = (
   new_push calls desk (n + 1) ps p h.2 is (e ∙ ap (new_pass_with calls) (let s : n + suc (length ps) ≡ n + 1 + length ps = omega arith in s)),
 )
 
--- so many passes are handed out, and the rest is in one seat
+-- this many passes are handed out, and the rest is in one seat
 pub record IsHandingOut (desk : Desk) (n : ℕ) (rest : Caller Call Reply) (ps : List Pass) : Type 0 where
   pub count : length ps ≡ n
   pub new : AreNewPassesWith (calls_of desk) desk 0 ps

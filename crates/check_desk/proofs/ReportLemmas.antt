@@ -1,4 +1,4 @@
--- A report whose call has returned: it stands in what its pass has seen, and what is glanced of its object goes on from it.
+-- A report whose call has returned: it stands in what its pass has seen, and what is glanced of its object continues from it.
 use Rattle.std.proofs.Common.{◌≡◌, ◌≢◌, ℕ, zero, suc, ◌<◌, List, [], ◌∷◌, ◌++◌, length, Bool, true, Option, Some, refl, sym, ap, ◌∙◌, subst}
 use Rattle.std.proofs.Common.{arith}
 use Rattle.std.specs.Prelude.{unwrap_or}
@@ -97,9 +97,9 @@ put_there zero standing (x ∷ xs) below = refl
 put_there (suc n) standing (x ∷ xs) below = put_there n standing xs (omega arith)
 
 -- a report leaves the standing that it is answered by
-as_told : (s : State) (n run : ℕ) (code : Code) (standing : Standing) (changed : Bool) (next : Option ℕ) → n < length s.standings
+standing_of_reply : (s : State) (n run : ℕ) (code : Code) (standing : Standing) (changed : Bool) (next : Option ℕ) → n < length s.standings
     → reply.Standing standing changed next ≡ (step s (call.Report n run code)).1 → standing_at (step s (call.Report n run code)).0.standings n ≡ standing
-as_told s n run code standing changed next below =
+standing_of_reply s n run code standing changed next below =
     report_cases (λ a. reply.Standing standing changed next ≡ a.1 → standing_at a.0.standings n ≡ standing) n run code s
     (λ why e. absurd (cc))
     (λ o r f g e.
@@ -116,23 +116,24 @@ lasting s (e ∷ es) object legal quiet =
     lasting (book_step s e.call).0 es object legal.1 quiet.1
     ∙ as_before s.sched e.call object (λ at. quiet.0 (ap (slot_of_reply e.call) legal.0 ∙ at))
 
-told_last : (s : BookState) (before since : List (Entry Call Reply)) (own object run : ℕ) (code : Code) (standing : Standing) (changed : Bool) (next : Option ℕ)
+standing_after_last : (s : BookState) (before since : List (Entry Call Reply)) (own object run : ℕ) (code : Code) (standing : Standing) (changed : Bool)
+    (next : Option ℕ)
     → object < length s.sched.standings
     → IsLegal book_step s (before ++ entry own (call.Report object run code) (reply.Standing standing changed next) ∷ since) → HasNoReport object since
     → standing_at (replay book_step s (before ++ entry own (call.Report object run code) (reply.Standing standing changed next) ∷ since)).sched.standings object
     ≡ standing
-told_last s [] since own object run code standing changed next below legal quiet =
+standing_after_last s [] since own object run code standing changed next below legal quiet =
     lasting (book_step s (call.Report object run code)).0 since object legal.1 quiet
-    ∙ as_told s.sched object run code standing changed next below legal.0
-told_last s (x ∷ before) since own object run code standing changed next below legal quiet =
+    ∙ standing_of_reply s.sched object run code standing changed next below legal.0
+standing_after_last s (x ∷ before) since own object run code standing changed next below legal quiet =
     let many = as_many s.sched x.call in
-    told_last (book_step s x.call).0 before since own object run code standing changed next (omega (arith, below, many)) legal.1 quiet
+    standing_after_last (book_step s x.call).0 before since own object run code standing changed next (omega (arith, below, many)) legal.1 quiet
 
 -- where nobody reported the object since, its standing is the one that the report was answered by
-pub last_told : (desk : Desk) (before since : List (Entry Call Reply)) (own object run : ℕ) (code : Code) (standing : Standing) (changed : Bool) (next : Option ℕ)
+pub last_standing : (desk : Desk) (before since : List (Entry Call Reply)) (own object run : ℕ) (code : Code) (standing : Standing) (changed : Bool) (next : Option ℕ)
     → object < objects_of desk
     → IsHistoryOf desk (before ++ entry own (call.Report object run code) (reply.Standing standing changed next) ∷ since) → HasNoReport object since
     → standing_after desk (before ++ entry own (call.Report object run code) (reply.Standing standing changed next) ∷ since) object ≡ standing
-last_told desk before since own object run code standing changed next there legal quiet =
+last_standing desk before since own object run code standing changed next there legal quiet =
     let each = ((start_of desk.lock).book).opened.one_standing_each in
-    told_last (desk_opening desk) before since own object run code standing changed next (omega (arith, there, each)) legal quiet
+    standing_after_last (desk_opening desk) before since own object run code standing changed next (omega (arith, there, each)) legal quiet

@@ -198,7 +198,7 @@ impl Desk {
         }
     }
 
-    /// Makes the call, records it under the pass's own number, and ends the turn. A report whose reply is its
+    /// Makes the call, records it under the pass's own number, and ends the hold. A report whose reply is its
     /// object's standing is posted first. From then on, everyone who glances at the object has seen the
     /// report. If there is no memory for the entry, the call isn't made, but counted. This happens only if
     /// the history has reached the book's room.
@@ -223,7 +223,7 @@ impl Desk {
         (Pass { seat }, answer)
     }
 
-    /// Ends the turn of a holder whose call is recorded in the book, or refused. A call that has a place on
+    /// Ends the hold of a caller whose call is recorded in the book, or refused. A call that has a place on
     /// the board is posted first.
     fn leave(&self, hold: ticket_lock::Hold<Book>, book: Book, place: Option<u32>) -> Seat<Book>
         requires desk { IsHoldOf self.now.lock hold }

@@ -9,12 +9,12 @@ ghost use Rattle.ticket_steps.specs.declared.books.Entry.{Entry};
 ghost use Rattle.ticket_steps.specs.declared.seats.CoreSeat.{CoreSeat};
 ghost use Rattle.ticket_steps.specs.Books.{calls_handled};
 ghost use Rattle.ticket_steps.specs.Endless.{Endless, IsEndless, IsFair, HoldsLater};
-ghost use Rattle.ticket_steps.specs.Happenings.{Happening, calls_made, drew, recorded_by, recordings, turns_ended};
+ghost use Rattle.ticket_steps.specs.Happenings.{Happening, calls_made, drew, recorded_by, recordings, calls_ended};
 ghost use Rattle.ticket_steps.specs.History.{entry, of, replay, IsLegal};
 ghost use Rattle.ticket_steps.specs.Schedules.{Schedule};
 ghost use Rattle.ticket_steps.specs.Seats.{poster_count_of, tickets_of};
 ghost use Rattle.ticket_steps.specs.Sums.{occurrences};
-ghost use Rattle.ticket_steps.specs.Turns.{Turn as TurnPart, IsTurnOf, drawn_at, entry_at, GoesOn};
+ghost use Rattle.ticket_steps.specs.RecordedCalls.{RecordedCall, IsRecordedIn, drawn_at, entry_at, GoesOn};
 ghost use Rattle.ticket_steps.specs.declared.seats.Phase.TheVariants.{Waiting};
 ghost use Rattle.ticket_lock.specs.Callers.{Caller, caller_after_draw};
 ghost use Rattle.ticket_lock.specs.Views.{Follows};
@@ -51,10 +51,11 @@ ghost use Rattle.check_desk.specs.Schedules.{IsScheduleAfter, IsScheduleFrom, Is
 ///   2, 3 and so on (`runs`).
 /// - Each number's entries are the calls that it recorded, each once and in its order (`entries`). A
 ///   number that was never given out has no entries (`strangers`).
-/// - All entries are the calls that were recorded, in the order of the posts and leaves (`order`). Each entry
-///   is the call of one turn, and stands between the turn's draw and its end (`turn`, `turns`).
-/// - First come, first served: if a pass drew before another, its entry stands before the other's
-///   (`first_come`). While a pass waits, fewer turns of others end than there are passes (`bypass`).
+/// - All entries are the calls that were recorded, in the order of the posts and leaves (`order`). The
+///   entry of a recorded call is at the place of its recording (`placed`), and each entry is that of such a
+///   call (`recorded`).
+/// - First come, first served: if a pass drew before another, its entry comes before the other's
+///   (`first_come`). While a pass waits, fewer calls of others end than there are passes (`bypass`).
 /// - Nothing is stuck: while a pass waits, some pass holds, or the pass whose ticket is served waits and holds
 ///   at its next look (`unstuck`). In every endless schedule in which each pass that waits looks again and
 ///   each holder leaves, each pass that drew holds later (`fair`).
@@ -94,24 +95,24 @@ pub fn headline()
     ensures order { (setup : Configuration) (start room : ℕ) (s : Schedule BookState Call Reply)
         → IsScheduleOver setup start room s
         → s.end.book.entries ≡ recordings s.happenings }
-    ensures turn { (setup : Configuration) (start room : ℕ) (s : Schedule BookState Call Reply)
+    ensures placed { (setup : Configuration) (start room : ℕ) (s : Schedule BookState Call Reply)
         → IsScheduleOver setup start room s
-        → (turn : TurnPart Call Reply) → IsTurnOf s.happenings turn
-        → get_elem? s.end.book.entries (entry_at turn) ≡ some (entry turn.own turn.call turn.reply) }
-    ensures turns { (setup : Configuration) (start room : ℕ) (s : Schedule BookState Call Reply)
+        → (made : RecordedCall Call Reply) → IsRecordedIn s.happenings made
+        → get_elem? s.end.book.entries (entry_at made) ≡ some (entry made.own made.call made.reply) }
+    ensures recorded { (setup : Configuration) (start room : ℕ) (s : Schedule BookState Call Reply)
         → IsScheduleOver setup start room s
         → (place : ℕ) → place < length s.end.book.entries
-        → (turn : TurnPart Call Reply) × IsTurnOf s.happenings turn × (entry_at turn ≡ place) }
+        → (made : RecordedCall Call Reply) × IsRecordedIn s.happenings made × (entry_at made ≡ place) }
     ensures first_come { (setup : Configuration) (start room : ℕ) (s : Schedule BookState Call Reply)
         → IsScheduleOver setup start room s
-        → (one other : TurnPart Call Reply) → IsTurnOf s.happenings one → IsTurnOf s.happenings other
+        → (one other : RecordedCall Call Reply) → IsRecordedIn s.happenings one → IsRecordedIn s.happenings other
         → drawn_at one < drawn_at other → entry_at one < entry_at other }
     ensures bypass { (setup : Configuration) (start room : ℕ) (s : Schedule BookState Call Reply)
         → IsScheduleOver setup start room s
         → (own ticket : ℕ) (before after : List (Happening Call Reply))
         → s.happenings ≡ before ++ drew own ticket ∷ after
         → (i : ℕ) (p : CoreSeat) → get_elem? s.end.seats i ≡ some p
-        → tickets_of p.phase ≡ ticket ∷ [] → turns_ended after < s.numbers }
+        → tickets_of p.phase ≡ ticket ∷ [] → calls_ended after < s.numbers }
     ensures unstuck { (setup : Configuration) (start room : ℕ) (s : Schedule BookState Call Reply)
         → IsScheduleOver setup start room s
         → (i ticket : ℕ) (p : CoreSeat) → get_elem? s.end.seats i ≡ some p
@@ -170,7 +171,7 @@ pub fn headline()
 ///   isn't taken until that run was reported or abandoned (`out`). The numbers of runs continue from those
 ///   that were handed out before (`runs`).
 /// - The clauses about the schedule of the book's callers hold as in `headline` (`entries`, `strangers`,
-///   `order`, `turn`, `turns`, `first_come`, `bypass`, `unstuck`, `made`, `all`).
+///   `order`, `placed`, `recorded`, `first_come`, `bypass`, `unstuck`, `made`, `all`).
 ///
 /// A [renewed](check_book::Book::renew) book opens in such a state too, so the clauses about callers hold for
 /// it. `earlier`, a legal history from a state on that led to its opening, followed by its entries is one
@@ -197,20 +198,20 @@ pub fn headline_from_any_state()
         → (number : ℕ) → of number s.end.book.entries ≡ recorded_by number s.happenings }
     ensures order { (opened : BookState) (s : Schedule BookState Call Reply) → IsScheduleFrom opened s
         → s.end.book.entries ≡ recordings s.happenings }
-    ensures turn { (opened : BookState) (s : Schedule BookState Call Reply) → IsScheduleFrom opened s
-        → (turn : TurnPart Call Reply) → IsTurnOf s.happenings turn
-        → get_elem? s.end.book.entries (entry_at turn) ≡ some (entry turn.own turn.call turn.reply) }
-    ensures turns { (opened : BookState) (s : Schedule BookState Call Reply) → IsScheduleFrom opened s
+    ensures placed { (opened : BookState) (s : Schedule BookState Call Reply) → IsScheduleFrom opened s
+        → (made : RecordedCall Call Reply) → IsRecordedIn s.happenings made
+        → get_elem? s.end.book.entries (entry_at made) ≡ some (entry made.own made.call made.reply) }
+    ensures recorded { (opened : BookState) (s : Schedule BookState Call Reply) → IsScheduleFrom opened s
         → (place : ℕ) → place < length s.end.book.entries
-        → (turn : TurnPart Call Reply) × IsTurnOf s.happenings turn × (entry_at turn ≡ place) }
+        → (made : RecordedCall Call Reply) × IsRecordedIn s.happenings made × (entry_at made ≡ place) }
     ensures first_come { (opened : BookState) (s : Schedule BookState Call Reply) → IsScheduleFrom opened s
-        → (one other : TurnPart Call Reply) → IsTurnOf s.happenings one → IsTurnOf s.happenings other
+        → (one other : RecordedCall Call Reply) → IsRecordedIn s.happenings one → IsRecordedIn s.happenings other
         → drawn_at one < drawn_at other → entry_at one < entry_at other }
     ensures bypass { (opened : BookState) (s : Schedule BookState Call Reply) → IsScheduleFrom opened s
         → (own ticket : ℕ) (before after : List (Happening Call Reply))
         → s.happenings ≡ before ++ drew own ticket ∷ after
         → (i : ℕ) (p : CoreSeat) → get_elem? s.end.seats i ≡ some p
-        → tickets_of p.phase ≡ ticket ∷ [] → turns_ended after < s.numbers }
+        → tickets_of p.phase ≡ ticket ∷ [] → calls_ended after < s.numbers }
     ensures unstuck { (opened : BookState) (s : Schedule BookState Call Reply) → IsScheduleFrom opened s
         → (i ticket : ℕ) (p : CoreSeat) → get_elem? s.end.seats i ≡ some p
         → p.phase ≡ Waiting ticket → GoesOn kept_book s.draws s.end }
@@ -245,12 +246,13 @@ pub fn headline_from_any_state()
         → run ≡ from.runs + runs_begun front + 1 }
 {}
 
-/// A call that [`Desk::ask`](crate::Desk::ask) answered is a turn of the desk's schedule, after all calls that
+/// A call that [`Desk::ask`](crate::Desk::ask) answered is recorded in the desk's schedule, after all calls that
 /// its pass knew when it asked (`made`).
 ///
 /// The schedule is the one that [`Desk::close`](crate::Desk::close) names, by clause `schedule`. Its history
-/// begins with what the pass has seen after the answer, by the clauses of later calls and of `gather`. What a
-/// pass has seen contains its own calls, those of passes that were gathered into it, and what it glanced at.
+/// begins with what the pass has seen after the answer, by the clauses of later calls and of `gather`. The
+/// history that a pass has seen contains its own calls, those of passes that were gathered into it, and what it
+/// glanced at.
 pub fn answered_calls()
     ensures made { (opened : BookState) (s : Schedule BookState Call Reply) → IsScheduleFrom opened s
         → (call : Call) (reply : Reply) (before after : Pass)
@@ -286,7 +288,7 @@ pub fn every_pass()
 /// object's standing, with no such report after it. Then the glance shows that very standing (`same_standing`).
 ///
 /// No clause says this of other passes: as far as contracts know, they may see the standing before the
-/// report. The report is posted before its turn ends because of the order of operations on the atomic word.
+/// report. The report is posted before its hold ends because of the order of operations on the atomic word.
 pub fn returned_reports()
     ensures finished { (call : Call) → (reply : Reply) → (hold : Hold) → (pass : Pass)
         → pass_of pass ≡ caller_after_reply call reply (hold_caller hold).seen (hold_caller hold)

@@ -34,7 +34,7 @@ pub struct Turn {
     pub(crate) turn: ticket_lock::Turn<Book>,
 }
 
-/// A pass whose turn it is: it holds the book.
+/// A pass whose turn has come: it holds the book.
 ///
 /// Safe code that doesn't pass a hold to `Desk::finish` doesn't compile. The desk needs the book back.
 pub struct Hold {
@@ -50,7 +50,7 @@ pub struct Hold {
 impl Pass {
     ghost use Rattle.check_desk.specs.Passes.{pass_of};
 
-    /// The seat of the lock that the pass stands for.
+    /// The seat of the lock that the pass uses.
     pub(crate) fn into_seat(self) -> Seat<Book>
         ensures { result ≡ self.seat }
     {

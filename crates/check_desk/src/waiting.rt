@@ -31,7 +31,7 @@ pub(crate) struct Patience {
 }
 
 impl Patience {
-    /// That of a caller that hasn't waited yet.
+    /// The patience of a caller that hasn't waited yet.
     pub(crate) fn new() -> Patience {
         Patience {
             backoff: Backoff::new(),

@@ -21,7 +21,7 @@ use Rattle.check_objects.proofs.NameLemmas.{found}
 use Rattle.setup_order.specs.Cycles.{links_of}
 use Rattle.setup_order.specs.Results.{successor, IsCycle}
 use Rattle.setup_order.specs.Orders.{is_among}
-use Rattle.check_objects.specs.Cycles.{name_among, part_at, IsNamedCycle, IsToldFromLeast}
+use Rattle.check_objects.specs.Cycles.{name_among, part_at, IsNamedCycle, IsNamedFromLeast}
 use Rattle.check_objects.proofs.SetupLemmas.{has_lists, sorts_alike}
 
 -- ---- names
@@ -59,11 +59,11 @@ module _ (c : Configuration) (hosts : List (String Global × Host)) (services : 
 
   -- a cycle of numbers, told by the names of the objects
   abbrev pub named_cycle : (links : List (List ℕ)) (numbers : List ℕ) (names : List (List ℕ)) → IsCycle links numbers
-      → IsToldFromLeast (name_among (objects_in hosts services)) numbers names → IsNamedCycle c links names
+      → IsNamedFromLeast (name_among (objects_in hosts services)) numbers names → IsNamedCycle c links names
   named_cycle links numbers names cycle told = record {
     numbers = numbers;
     is = cycle;
-    told = subst (λ objects. IsToldFromLeast (name_among objects) numbers names) objects_are told;
+    told = subst (λ objects. IsNamedFromLeast (name_among objects) numbers names) objects_are told;
   }
 
 -- ---- all objects of a cycle are of one sort

@@ -12,7 +12,7 @@ abbrev pub name_among : List NamedObject → ℕ → List ℕ
 name_among objects n = unwrap_or (option_map (λ o. o.name) (slice_get objects n)) []
 
 -- the names of these numbers, from the least one on: those before it come last
-pub record IsToldFromLeast (name : ℕ → List ℕ) (numbers : List ℕ) (names : List (List ℕ)) : Type 0 where
+pub record IsNamedFromLeast (name : ℕ → List ℕ) (numbers : List ℕ) (names : List (List ℕ)) : Type 0 where
   pub place : ℕ
   pub within : place < length numbers
   pub least : (i : ℕ) → i < length numbers → get_or numbers place 0 ≤ get_or numbers i 0
@@ -22,7 +22,7 @@ pub record IsToldFromLeast (name : ℕ → List ℕ) (numbers : List ℕ) (names
 pub record IsNamedCycle (c : Configuration) (links : List (List ℕ)) (names : List (List ℕ)) : Type 0 where
   pub numbers : List ℕ
   pub is : IsCycle links numbers
-  pub told : IsToldFromLeast (name_among (objects_of c)) numbers names
+  pub told : IsNamedFromLeast (name_among (objects_of c)) numbers names
 
 -- the part of the object with this number, after this many hosts
 abbrev pub part_at : ℕ → ℕ → Part

@@ -7,7 +7,7 @@ ghost use Rattle.setup_reader.specs.Verification.{verification};
 ghost use Rattle.check_objects.specs.Configuration.{masters_of, parents_by_host};
 ghost use Rattle.check_objects.specs.Entries.{host_entry, objects_in, service_entry};
 ghost use Rattle.check_objects.specs.Numbering.{configuration};
-ghost use Rattle.check_objects.specs.Cycles.{name_among, part_at, IsParentCycle, IsToldFromLeast};
+ghost use Rattle.check_objects.specs.Cycles.{name_among, part_at, IsParentCycle, IsNamedFromLeast};
 ghost use Rattle.check_objects.specs.Setup.{AreRefusedFor};
 ghost use Rattle.setup_order.specs.Cycles.{has_cycle};
 ghost use Rattle.setup_order.specs.Results.{IsCycle};
@@ -83,7 +83,7 @@ fn cycle_names(
     requires within { (place : ℕ) → place < length cycle.now
         → get_or cycle.now place 0 < length (objects_in hosts.now.entries services.now.entries) }
     ensures { IfOk result (λ names.
-        IsToldFromLeast (name_among (objects_in hosts.now.entries services.now.entries)) cycle.now
+        IsNamedFromLeast (name_among (objects_in hosts.now.entries services.now.entries)) cycle.now
         (map string_bytes names.items)) }
 {
     let mut names = Vec::with_capacity(alloc, cycle.len())?;

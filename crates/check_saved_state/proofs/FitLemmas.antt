@@ -1,5 +1,6 @@
 -- The tree of what is saved has plain values, nests a few levels deep, and has a short text.
-use Rattle.std.proofs.Common.{inl, inr, ◌≡◌, ℕ, suc, ◌+◌, ◌*◌, ◌^◌, ◌<◌, ◌≤◌, Bool, true, false, ◌&&◌, List, [], ◌∷◌, length, refl, subst, sym, ap, ◌∙◌, arith, length-append}
+use Rattle.std.proofs.Common.{inl, inr, ◌≡◌, ℕ, suc, ◌+◌, ◌*◌, ◌^◌, ◌<◌, ◌≤◌, Bool, true, false, ◌&&◌, List, [], ◌∷◌, length, refl, subst, sym, ap, ◌∙◌, arith}
+use Rattle.std.proofs.Common.{length-append}
 use Rattle.std.proofs.Common.{Option, Some, None, option_map, IsUtf8, Ordering, Less, Equal, Greater, nat_cmp}
 use Rattle.std.specs.Prelude.{codes, nat_le, slice_get}
 use Rattle.std.specs.Cmp.Lexicographic.{slice_cmp}

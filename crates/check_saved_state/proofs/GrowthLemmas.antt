@@ -13,7 +13,8 @@ use Rattle.setup_reader.specs.Shapes.{first_of, keys_in}
 use Rattle.setup_model.proofs.ListLemmas.{list_any-map}
 use Rattle.check_saved_state.specs.declared.table.Member.{Member}
 use Rattle.check_saved_state.specs.Object.{object_in, object_of_values, optional_run}
-use Rattle.check_saved_state.specs.Table.{Added, Row, as_row, default_by, defaults, found_in, has_only_members, is_in, is_known, object_members, value_at, values_in}
+use Rattle.check_saved_state.specs.Table.{Added, Row, as_row, default_by, defaults, found_in, has_only_members, is_in, is_known, object_members, value_at}
+use Rattle.check_saved_state.specs.Table.{values_in}
 
 -- ---- the members of the code's map
 

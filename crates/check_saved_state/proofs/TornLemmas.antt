@@ -21,7 +21,8 @@ use Rattle.check_saved_state.specs.declared.fault.SavedFault.TheVariants as faul
 use Rattle.check_saved_state.specs.Saved.{IsSaved, Saved}
 use Rattle.check_saved_state.specs.Text.{saved_of_text, saved_of_tree, saved_text}
 use Rattle.check_saved_state.specs.Tree.{saved_tree}
-use Rattle.check_saved_state.proofs.BracketLemmas.{AreGood, brackets, is_good, front_open, lexed, lexed_splits, members_open, one_more_open, open_after, open_members}
+use Rattle.check_saved_state.proofs.BracketLemmas.{AreGood, brackets, is_good, front_open, lexed, lexed_splits, members_open, one_more_open, open_after}
+use Rattle.check_saved_state.proofs.BracketLemmas.{open_members}
 use Rattle.check_saved_state.proofs.BracketLemmas.{punctuated_has, value_closes}
 use Rattle.check_saved_state.proofs.FitLemmas.{saved_fits}
 use Rattle.check_saved_state.proofs.PlainLemmas.{printable}

@@ -1,11 +1,11 @@
--- Laws of runs that are given up, one object after another.
+-- Laws of runs that are abandoned, one object after another.
 use Rattle.std.proofs.Common.{◌≡◌, ℕ, zero, suc, ◌+◌, ◌<◌, ◌≤◌, List, [], ◌∷◌, ◌++◌, length, take, drop, get_or, set, refl, ap, ◌∙◌, arith}
 use Rattle.std.proofs.lemmas.List.{append-nil, drop_all, take_all}
 use Rattle.check_saved_state.specs.Scheduling.{Scheduling}
 use Rattle.check_sched.specs.Saved.{object_after_abandon}
 use Rattle.check_sched.proofs.ResumedLaws.{freed, length-freed}
 
--- the objects below a number as they are given up, and those from there on as they were
+-- the objects below a number as they are abandoned, and those from there on as they were
 abbrev pub freed_below : ℕ → ℕ → ℕ → List Scheduling → List Scheduling
 freed_below n from now objects = take n (freed from now objects) ++ drop n objects
 
@@ -30,7 +30,7 @@ set_below (suc n) zero now (o ∷ objects) d h l = ap (λ os. object_after_aband
 set_below zero (suc from) now (o ∷ objects) d h l = absurd (omega arith)
 set_below (suc n) (suc from) now (o ∷ objects) d h l = ap (λ os. o ∷ os) (set_below n from now objects d (omega arith) (omega arith))
 
--- one object more is given up
+-- one object more is abandoned
 pub freed_more : (n from now : ℕ) (objects current : List Scheduling) (old new : Scheduling) → from ≤ n → n < length objects
     → current ≡ freed_below n from now objects → old ≡ get_or current n old → new ≡ object_after_abandon now old
     → set current n new ≡ freed_below (n + 1) from now objects

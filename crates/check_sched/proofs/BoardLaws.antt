@@ -93,13 +93,13 @@ reported_words n f standing objects standings =
 abbrev Same : State → State × Reply → Type 0
 Same s a = board_of a.0 ≡ board_of s
 
-same_turn : (now n : ℕ) (s : State) (held : Bool)
+same_chosen : (now n : ℕ) (s : State) (held : Bool)
     → Same s (cond held (put_off now n s, reply.PutOff n (put_off_until s.setup n now)) (state_after_take now n s, reply.Taken n (s.runs + 1)))
-same_turn now n s true = same_words s.standings n _ s.objects
-same_turn now n s false = same_words s.standings n _ s.objects
+same_chosen now n s true = same_words s.standings n _ s.objects
+same_chosen now n s false = same_words s.standings n _ s.objects
 
 same_least : (now : ℕ) (s : State) (found : Option Candidate) → Same s (take_least now s found)
-same_least now s (Some c) = same_turn now c.1 s (is_held_back s c.1)
+same_least now s (Some c) = same_chosen now c.1 s (is_held_back s c.1)
 same_least now s None = refl
 
 same_take : (now : ℕ) (s : State) → Same s (step s (call.Take now))
@@ -134,8 +134,8 @@ by_report : (P : State × Reply → Type 0) (n run : ℕ) (c : Code) (s : State)
     → ((why : Refusal) → P (s, reply.Refused why))
     → ((o : Scheduling) (r : OpenRun) → slice_get s.objects n ≡ Some o → P (report_of_run n r.start c o s))
     → P (step s (call.Report n run c))
-by_report P n run c s refused tell =
-    by_test P s (existing_object n s) _ refused (λ o e. by_test P s (run_under run o.run) _ refused (λ r f. tell o r (known_is n s o e)))
+by_report P n run c s refused answer =
+    by_test P s (existing_object n s) _ refused (λ o e. by_test P s (run_under run o.run) _ refused (λ r f. answer o r (known_is n s o e)))
 
 nowhere : {P : Type 0} (at : ℕ) → None ≡ Some at → P
 nowhere at e = absurd (cc)

@@ -26,9 +26,9 @@ filtered_by p c cs true e h = and_from (p c) _ e h
 filtered_by p c cs false e h = h
 
 -- what a filter lets through passes its test
-pub filtered_pass : (p : Candidate → Bool) (cs : List Candidate) → list_all p (filter p cs) ≡ true
-filtered_pass p [] = refl
-filtered_pass p (c ∷ cs) = filtered_by p c cs (p c) refl (filtered_pass p cs)
+pub filtered_meet : (p : Candidate → Bool) (cs : List Candidate) → list_all p (filter p cs) ≡ true
+filtered_meet p [] = refl
+filtered_meet p (c ∷ cs) = filtered_by p c cs (p c) refl (filtered_meet p cs)
 
 -- a filter that lets all through
 filter_every : (p : Candidate → Bool) (cs : List Candidate) → ((c : Candidate) → p c ≡ true) → filter p cs ≡ cs
@@ -94,7 +94,7 @@ eligible_is now s room e = ap (λ b. filter (λ c. is_host s.setup c.1 || b) (du
 
 -- the check of the one that is chosen may begin
 pub eligible_open : (now : ℕ) (s : State) (c : Candidate) → least (eligible_candidates now s) ≡ Some c → is_startable s c.1 ≡ true
-eligible_open now s c e = all_at_least (λ x. is_startable s x.1) c (eligible_candidates now s) e (filtered_pass (λ x. is_startable s x.1) (due_candidates now s))
+eligible_open now s c e = all_at_least (λ x. is_startable s x.1) c (eligible_candidates now s) e (filtered_meet (λ x. is_startable s x.1) (due_candidates now s))
 
 -- ---- the reply where none may begin
 

@@ -98,14 +98,14 @@ reported_apart s n object found standing next h i = record {
 }
 
 -- after one result more, or after none
-abbrev with_told : ℕ × ℕ → Flapping → Option rules.State → Flapping
-with_told thresholds was None = was
-with_told thresholds was (Some found) = with_result thresholds was found
+abbrev with_reported : ℕ × ℕ → Flapping → Option rules.State → Flapping
+with_reported thresholds was None = was
+with_reported thresholds was (Some found) = with_result thresholds was found
 
 reported_by : (s : State) (n object : ℕ) (found : rules.State) (next : Option ℕ) (same : Bool) → (n == object) ≡ same
     → n < length s.standings → n < length s.results
     → flapping_in (state_after_report n found (new_standing_in s n found) next s) object
-    ≡ with_told (flap_thresholds_of s.setup object) (flapping_in s object) (cond same (Some found) None)
+    ≡ with_reported (flap_thresholds_of s.setup object) (flapping_in s object) (cond same (Some found) None)
 reported_by s n object found next true e l m =
     subst (λ k. flapping_in (state_after_report n found (new_standing_in s n found) next s) k ≡ with_result (flap_thresholds_of s.setup k) (flapping_in s k) found)
     (eqb-true n object e) (reported_here s n found next l m)
@@ -113,42 +113,42 @@ reported_by s n object found next false e l m =
     reported_apart s n object found (new_standing_in s n found) next (λ same. let clash : true ≡ false = sym (eq-eqb n object same) ∙ e in cc)
 
 -- what a call leaves of an object, by what its answer says
-abbrev Tells : State → ℕ → Call → State × Reply → Type 0
-Tells s object c a = flapping_in a.0 object ≡ with_told (flap_thresholds_of s.setup object) (flapping_in s object) (reported_state object c a.1)
+abbrev Adds : State → ℕ → Call → State × Reply → Type 0
+Adds s object c a = flapping_in a.0 object ≡ with_reported (flap_thresholds_of s.setup object) (flapping_in s object) (reported_state object c a.1)
 
-step_tells : (s : State) (object : ℕ) (c : Call) → HasPlaces s → Tells s object c (step s c)
-step_tells s object (call.Take now) saved_indexes =
-    take_cases (Tells s object (call.Take now)) now s (λ why. refl) (λ c m e. refl) (λ c m r e. refl) (λ e. refl)
-step_tells s object (call.Report n run c) saved_indexes =
-    report_cases (Tells s object (call.Report n run c)) n run c s (λ why. refl)
+step_flapping : (s : State) (object : ℕ) (c : Call) → HasPlaces s → Adds s object c (step s c)
+step_flapping s object (call.Take now) saved_indexes =
+    take_cases (Adds s object (call.Take now)) now s (λ why. refl) (λ c m e. refl) (λ c m r e. refl) (λ e. refl)
+step_flapping s object (call.Report n run c) saved_indexes =
+    report_cases (Adds s object (call.Report n run c)) n run c s (λ why. refl)
     (λ o r e f. let in_range = slice_get_within s.objects n o e in
     let next = next_after s.setup n (new_standing_in s n (state_found_in s n c)) r.start o.next in
     reported_by s n object (state_found_in s n c) next (n == object) refl (omega (arith, in_range, saved_indexes.0)) (omega (arith, in_range, saved_indexes.1)))
-step_tells s object (call.Abandon n run now) saved_indexes = abandon_cases (Tells s object (call.Abandon n run now)) n run now s (λ why. refl) (λ o e m. refl)
-step_tells s object (call.Reschedule n time forced) saved_indexes =
-    reschedule_cases (Tells s object (call.Reschedule n time forced)) n time forced s (λ why. refl) (λ m. refl)
-step_tells s object (call.Enable n on) saved_indexes = enable_cases (Tells s object (call.Enable n on)) n on s (λ why. refl) refl
-step_tells s object (call.Status n) saved_indexes = status_cases (Tells s object (call.Status n)) n s (λ why. refl) (λ o e. refl)
+step_flapping s object (call.Abandon n run now) saved_indexes = abandon_cases (Adds s object (call.Abandon n run now)) n run now s (λ why. refl) (λ o e m. refl)
+step_flapping s object (call.Reschedule n time forced) saved_indexes =
+    reschedule_cases (Adds s object (call.Reschedule n time forced)) n time forced s (λ why. refl) (λ m. refl)
+step_flapping s object (call.Enable n on) saved_indexes = enable_cases (Adds s object (call.Enable n on)) n on s (λ why. refl) refl
+step_flapping s object (call.Status n) saved_indexes = status_cases (Adds s object (call.Status n)) n s (λ why. refl) (λ o e. refl)
 
 -- ---- histories
 
-told_first : (thresholds : ℕ × ℕ) (was : Flapping) (told : Option rules.State) (later : List rules.State)
-    → with_results thresholds (with_told thresholds was told) later ≡ with_results thresholds was (cons_option told later)
-told_first thresholds was None later = refl
-told_first thresholds was (Some found) later = refl
+with_first : (thresholds : ℕ × ℕ) (was : Flapping) (reported : Option rules.State) (later : List rules.State)
+    → with_results thresholds (with_reported thresholds was reported) later ≡ with_results thresholds was (cons_option reported later)
+with_first thresholds was None later = refl
+with_first thresholds was (Some found) later = refl
 
-pub replay_tells : (s : State) (h : List (Entry Call Reply)) (object : ℕ) → HasPlaces s → IsLegal step s h
+pub replay_flapping : (s : State) (h : List (Entry Call Reply)) (object : ℕ) → HasPlaces s → IsLegal step s h
     → flapping_in (replay step s h) object ≡ with_results (flap_thresholds_of s.setup object) (flapping_in s object) (reported_states object h)
-replay_tells s [] object saved_indexes legal = refl
-replay_tells s (e ∷ h) object saved_indexes legal =
+replay_flapping s [] object saved_indexes legal = refl
+replay_flapping s (e ∷ h) object saved_indexes legal =
     let next = (step s e.call).0 in
-    let told : flapping_in next object ≡ with_told (flap_thresholds_of s.setup object) (flapping_in s object) (reported_state object e.call e.reply) =
-    subst (λ r. flapping_in next object ≡ with_told (flap_thresholds_of s.setup object) (flapping_in s object) (reported_state object e.call r))
-    (sym legal.0) (step_tells s object e.call saved_indexes) in
-    replay_tells next h object (step_places s e.call saved_indexes) legal.1
+    let reported : flapping_in next object ≡ with_reported (flap_thresholds_of s.setup object) (flapping_in s object) (reported_state object e.call e.reply) =
+    subst (λ r. flapping_in next object ≡ with_reported (flap_thresholds_of s.setup object) (flapping_in s object) (reported_state object e.call r))
+    (sym legal.0) (step_flapping s object e.call saved_indexes) in
+    replay_flapping next h object (step_places s e.call saved_indexes) legal.1
     ∙ ap (λ c. with_results (flap_thresholds_of c object) (flapping_in next object) (reported_states object h)) (step_keeps s e.call).setup
-    ∙ ap (λ f. with_results (flap_thresholds_of s.setup object) f (reported_states object h)) told
-    ∙ told_first (flap_thresholds_of s.setup object) (flapping_in s object) (reported_state object e.call e.reply) (reported_states object h)
+    ∙ ap (λ f. with_results (flap_thresholds_of s.setup object) f (reported_states object h)) reported
+    ∙ with_first (flap_thresholds_of s.setup object) (flapping_in s object) (reported_state object e.call e.reply) (reported_states object h)
 
 -- ---- the opening
 
@@ -174,7 +174,7 @@ opening_flapping setup start object i = record {
 pub opened_flapping : (setup : Configuration) (start : ℕ) (h : List (Entry Call Reply)) (object : ℕ) → IsLegal step (opening setup start) h
     → flapping_in (replay step (opening setup start) h) object ≡ with_results (flap_thresholds_of setup object) never_checked (reported_states object h)
 opened_flapping setup start h object legal =
-    replay_tells (opening setup start) h object (opening_places setup start) legal
+    replay_flapping (opening setup start) h object (opening_places setup start) legal
     ∙ ap (λ f. with_results (flap_thresholds_of setup object) f (reported_states object h)) (opening_flapping setup start object)
 
 -- ---- the last of all

@@ -20,7 +20,7 @@ use Rattle.check_sched.specs.Scheduling.{run_under}
 use Rattle.check_sched.specs.State.{IsPendingUntilChecked, IsState, State, flap_thresholds_of, results_at}
 use Rattle.check_sched.specs.Step.{◌>>=◌, after, answer_to, eligible_candidates, is_held_back, existing_object, put_off, run_test, step_of_answer, step}
 use Rattle.check_sched.specs.Step.{take_least, state_after_take, moment_test}
-use Rattle.check_sched.proofs.FlappingLaws.{HasPlaces, kept_of_all, replay_tells}
+use Rattle.check_sched.proofs.FlappingLaws.{HasPlaces, kept_of_all, replay_flapping}
 use Rattle.check_sched.proofs.PendingLaws.{ArePending, after_pending}
 use Rattle.check_sched.proofs.StepLaws.{after_setup}
 
@@ -43,7 +43,7 @@ saved_indexes s is =
 
 pub flapping_from : (s : State) (h : List (Entry Call Reply)) (object : ℕ) → IsState s → IsLegal step s h
     → flapping_in (replay step s h) object ≡ with_results (flap_thresholds_of s.setup object) (flapping_in s object) (reported_states object h)
-flapping_from s h object is legal = replay_tells s h object (saved_indexes s is) legal
+flapping_from s h object is legal = replay_flapping s h object (saved_indexes s is) legal
 
 all_kept : (results : List rules.State) → length results ≤ 21 → results ≡ keep_last 21 results
 all_kept results bounded =
@@ -71,27 +71,27 @@ started start s = record s { start = start }
 abbrev with_start : ℕ → State × Reply → State × Reply
 with_start start a = (started start a.0, a.1)
 
-abbrev told : ℕ → Result (State × Reply) Refusal → Result (State × Reply) Refusal
-told start (Ok a) = Ok (with_start start a)
-told start (Err why) = Err why
+abbrev restarted : ℕ → Result (State × Reply) Refusal → Result (State × Reply) Refusal
+restarted start (Ok a) = Ok (with_start start a)
+restarted start (Err why) = Err why
 
 -- what follows a test that reads no start
-tested : {A : Type 0} (start : ℕ) (r : Result A Refusal) (f g : A → Result (State × Reply) Refusal) → ((x : A) → f x ≡ told start (g x))
-    → (r >>= f) ≡ told start (r >>= g)
+tested : {A : Type 0} (start : ℕ) (r : Result A Refusal) (f g : A → Result (State × Reply) Refusal) → ((x : A) → f x ≡ restarted start (g x))
+    → (r >>= f) ≡ restarted start (r >>= g)
 tested start (Ok x) f g h = h x
 tested start (Err why) f g h = refl
 
-turn_started : (start now n : ℕ) (s : State) (held : Bool)
+chosen_started : (start now n : ℕ) (s : State) (held : Bool)
     → cond held (put_off now n (started start s), reply.PutOff n (put_off_until s.setup n now)) (state_after_take now n (started start s), reply.Taken n (s.runs + 1))
     ≡ with_start start (cond held (put_off now n s, reply.PutOff n (put_off_until s.setup n now)) (state_after_take now n s, reply.Taken n (s.runs + 1)))
-turn_started start now n s true = refl
-turn_started start now n s false = refl
+chosen_started start now n s true = refl
+chosen_started start now n s false = refl
 
 least_started : (start now : ℕ) (s : State) (found : Option Candidate) → take_least now (started start s) found ≡ with_start start (take_least now s found)
-least_started start now s (Some c) = turn_started start now c.1 s (is_held_back s c.1)
+least_started start now s (Some c) = chosen_started start now c.1 s (is_held_back s c.1)
 least_started start now s None = refl
 
-answer_started : (start : ℕ) (s : State) (c : Call) → answer_to (started start s) c ≡ told start (answer_to s c)
+answer_started : (start : ℕ) (s : State) (c : Call) → answer_to (started start s) c ≡ restarted start (answer_to s c)
 answer_started start s (call.Take now) =
     tested start (moment_test now) _ _ (λ u. tested start (run_test s) _ _ (λ v. ap Ok (least_started start now s (least (eligible_candidates now s)))))
 answer_started start s (call.Report n run code) = tested start (existing_object n s) _ _ (λ o. tested start (run_under run o.run) _ _ (λ r. refl))
@@ -101,7 +101,7 @@ answer_started start s (call.Reschedule n time forced) = tested start (existing_
 answer_started start s (call.Enable n on) = tested start (existing_object n s) _ _ (λ o. refl)
 answer_started start s (call.Status n) = tested start (existing_object n s) _ _ (λ o. refl)
 
-settled_started : (start : ℕ) (s : State) (r : Result (State × Reply) Refusal) → step_of_answer (started start s) (told start r) ≡ with_start start (step_of_answer s r)
+settled_started : (start : ℕ) (s : State) (r : Result (State × Reply) Refusal) → step_of_answer (started start s) (restarted start r) ≡ with_start start (step_of_answer s r)
 settled_started start s (Ok a) = refl
 settled_started start s (Err why) = refl
 

@@ -1,5 +1,6 @@
 -- An object that is checked at intervals always has a next check. Where an object loses its next check, the reply says so.
-use Rattle.std.proofs.Common.{◌≡◌, ◌≢◌, ◌⊎◌, ℕ, zero, suc, ◌+◌, ◌*◌, ◌<◌, ◌++◌, Bool, true, false, cond, not, List, [], ◌∷◌, map, Option, Some, None, refl, sym, ap, ◌∙◌, subst, inl, inr, ⊎_elim}
+use Rattle.std.proofs.Common.{◌≡◌, ◌≢◌, ◌⊎◌, ℕ, zero, suc, ◌+◌, ◌*◌, ◌<◌, ◌++◌, Bool, true, false, cond, not, List, [], ◌∷◌, map, Option, Some, None, refl, sym}
+use Rattle.std.proofs.Common.{ap, ◌∙◌, subst, inl, inr, ⊎_elim}
 use Rattle.std.proofs.Common.{arith, ne_eqb, is_some, option_and_then}
 use Rattle.std.proofs.lemmas.List.{map-append}
 use Rattle.std.specs.Prelude.{slice_get, zip, ◌||◌, ◌&&◌}
@@ -19,7 +20,7 @@ use Rattle.check_sched.specs.declared.call.Reply.{Reply}
 use Rattle.check_sched.specs.declared.call.Reply.TheVariants as reply
 use Rattle.check_sched.specs.declared.intervals.Intervals.{Intervals}
 use Rattle.check_sched.specs.Intervals.{interval_for_standing, intervals_for, time_after}
-use Rattle.check_sched.specs.Lasting.{IsCheckedAtIntervals, TellsNoTime, has_next_check}
+use Rattle.check_sched.specs.Lasting.{IsCheckedAtIntervals, ShowsNoTime, has_next_check}
 use Rattle.check_sched.specs.Report.{next_after, put_off_until}
 use Rattle.check_sched.specs.Scheduling.{enabled_as, object_after_run, opening_object, put_off_to}
 use Rattle.check_sched.specs.State.{State, opening, scheduling_at, standing_at}
@@ -52,20 +53,20 @@ module _ (number : ℕ) where
   Has s = has_next_check (scheduling_at s.objects number) ≡ true
 
   -- the object has a next check, or the reply says that it has no time
-  abbrev Told : Call → State × Reply → Type 0
-  Told c a = Has a.0 ⊎ TellsNoTime number c a.1
+  abbrev HasOrShows : Call → State × Reply → Type 0
+  HasOrShows c a = Has a.0 ⊎ ShowsNoTime number c a.1
 
-  told_put_off : (c : Call) (n : ℕ) (until : Option ℕ) (s : State) → Has s
-      → (has_next_check (scheduling_at (update_at n (put_off_to until) s.objects) number) ≡ true) ⊎ TellsNoTime number c (reply.PutOff n until)
-  told_put_off c n until s was =
-      changed (λ o. (has_next_check o ≡ true) ⊎ TellsNoTime number c (reply.PutOff n until)) n number (put_off_to until) s.objects (inl was)
+  put_off_shows : (c : Call) (n : ℕ) (until : Option ℕ) (s : State) → Has s
+      → (has_next_check (scheduling_at (update_at n (put_off_to until) s.objects) number) ≡ true) ⊎ ShowsNoTime number c (reply.PutOff n until)
+  put_off_shows c n until s was =
+      changed (λ o. (has_next_check o ≡ true) ⊎ ShowsNoTime number c (reply.PutOff n until)) n number (put_off_to until) s.objects (inl was)
       (λ here o _. ⊎_elim (λ some. inl some) (λ none. inr (here, none)) (timed_or_not until o.run))
 
-  told_report : (n run : ℕ) (code : Code) (standing : Standing) (has_changed : Bool) (next : Option ℕ) (s : State) → Has s
+  report_shows : (n run : ℕ) (code : Code) (standing : Standing) (has_changed : Bool) (next : Option ℕ) (s : State) → Has s
       → (has_next_check (scheduling_at (update_at n (object_after_run next) s.objects) number) ≡ true)
-      ⊎ TellsNoTime number (call.Report n run code) (reply.Standing standing has_changed next)
-  told_report n run code standing has_changed next s was =
-      changed (λ o. (has_next_check o ≡ true) ⊎ TellsNoTime number (call.Report n run code) (reply.Standing standing has_changed next)) n number
+      ⊎ ShowsNoTime number (call.Report n run code) (reply.Standing standing has_changed next)
+  report_shows n run code standing has_changed next s was =
+      changed (λ o. (has_next_check o ≡ true) ⊎ ShowsNoTime number (call.Report n run code) (reply.Standing standing has_changed next)) n number
       (object_after_run next) s.objects (inl was) (λ here o _. ⊎_elim (λ some. inl some) (λ none. inr (here, none)) (timed_or_not next None))
 
   -- an object that gets a time has a next check
@@ -74,26 +75,26 @@ module _ (number : ℕ) where
   has_changed_to n f s was new =
       changed (λ o. has_next_check o ≡ true) n number f s.objects was (λ here o is. new o (ap has_next_check (sym is) ∙ was))
 
-  step_told : (s : State) (c : Call) → Has s → Told c (step s c)
-  step_told s (call.Take now) was = take_cases (Told (call.Take now)) now s (λ why. inl was)
-      (λ c m e. told_put_off (call.Take now) c.1 (put_off_until s.setup c.1 now) s was)
+  step_shows : (s : State) (c : Call) → Has s → HasOrShows c (step s c)
+  step_shows s (call.Take now) was = take_cases (HasOrShows (call.Take now)) now s (λ why. inl was)
+      (λ c m e. put_off_shows (call.Take now) c.1 (put_off_until s.setup c.1 now) s was)
       (λ c m r e. inl (has_changed_to c.1 _ s was (λ o h. refl))) (λ e. inl was)
-  step_told s (call.Report n run code) was = report_cases (Told (call.Report n run code)) n run code s (λ why. inl was)
+  step_shows s (call.Report n run code) was = report_cases (HasOrShows (call.Report n run code)) n run code s (λ why. inl was)
       (λ o r e f.
       let standing = new_standing_in s n (state_found_in s n code) in
-      told_report n run code standing (is_another_state standing.state (standing_at s.standings n).state) (next_after s.setup n standing r.start o.next) s was)
-  step_told s (call.Abandon n run now) was = abandon_cases (Told (call.Abandon n run now)) n run now s (λ why. inl was)
+      report_shows n run code standing (is_another_state standing.state (standing_at s.standings n).state) (next_after s.setup n standing r.start o.next) s was)
+  step_shows s (call.Abandon n run now) was = abandon_cases (HasOrShows (call.Abandon n run now)) n run now s (λ why. inl was)
       (λ o e m. inl (has_changed_to n _ s was (λ x h. refl)))
-  step_told s (call.Reschedule n time forced) was = reschedule_cases (Told (call.Reschedule n time forced)) n time forced s (λ why. inl was)
+  step_shows s (call.Reschedule n time forced) was = reschedule_cases (HasOrShows (call.Reschedule n time forced)) n time forced s (λ why. inl was)
       (λ m. inl (has_changed_to n _ s was (λ x h. refl)))
-  step_told s (call.Enable n on) was = enable_cases (Told (call.Enable n on)) n on s (λ why. inl was)
+  step_shows s (call.Enable n on) was = enable_cases (HasOrShows (call.Enable n on)) n on s (λ why. inl was)
       (inl (has_changed_to n (enabled_as on) s was (λ x h. h)))
-  step_told s (call.Status n) was = status_cases (Told (call.Status n)) n s (λ why. inl was) (λ o e. inl was)
+  step_shows s (call.Status n) was = status_cases (HasOrShows (call.Status n)) n s (λ why. inl was) (λ o e. inl was)
 
   -- where a call takes the next check from an object, its reply says so
-  pub lost_is_told : (s : State) (c : Call) → Has s → has_next_check (scheduling_at (step s c).0.objects number) ≡ false → TellsNoTime number c (step s c).1
-  lost_is_told s c was lost = ⊎_elim (λ (has : Has (step s c).0). let no : true ≡ false = sym has ∙ lost in absurd (cc))
-      (λ (told : TellsNoTime number c (step s c).1). told) (step_told s c was)
+  pub lost_is_shown : (s : State) (c : Call) → Has s → has_next_check (scheduling_at (step s c).0.objects number) ≡ false → ShowsNoTime number c (step s c).1
+  lost_is_shown s c was lost = ⊎_elim (λ (has : Has (step s c).0). let no : true ≡ false = sym has ∙ lost in absurd (cc))
+      (λ (shows : ShowsNoTime number c (step s c).1). shows) (step_shows s c was)
 
 -- ---- what lasts
 

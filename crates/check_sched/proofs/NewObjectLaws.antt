@@ -1,4 +1,4 @@
--- Laws of new objects: a scheduler goes on with them as it opens with them.
+-- Laws of new objects: a scheduler continues with them as it opens with them.
 use Rattle.std.proofs.Common.{◌≡◌, ℕ, zero, suc, ◌+◌, ◌<◌, ◌≤◌, ◌^◌, List, [], ◌∷◌, map, Option, Some, None, false, true, unwrap_or, refl, sym, ap, ◌∙◌, arith}
 use Rattle.std.specs.Prelude.{slice_get, zip}
 use Rattle.std.proofs.lemmas.List.{length-replicate}
@@ -53,7 +53,7 @@ results_new c before =
     made_each (λ p. results_after_resume None) 0 (objects_of c) (opening_results c) (length-replicate (object_count c) [])
     (λ n o x e f. none_kept (object_count c) n x f)
 
--- where nothing was saved, a scheduler goes on as it opens
+-- where nothing was saved, a scheduler continues as it opens
 pub resumed_nothing : (c : Configuration) (before start : ℕ) → state_after_resume c (record { start = before; runs = 0; objects = [] }) start ≡ opening c start
 resumed_nothing c before start = λ i. record {
   setup = c;

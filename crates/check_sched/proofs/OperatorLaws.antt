@@ -45,7 +45,7 @@ pub status_cases : (P : State × Reply → Type 0) (n : ℕ) (s : State)
     → ((why : Refusal) → P (s, reply.Refused why))
     → ((o : Scheduling) → slice_get s.objects n ≡ Some o → P (s, reply.Standing (standing_at s.standings n) false o.next))
     → P (step s (call.Status n))
-status_cases P n s refused tell = by_test P s (existing_object n s) _ refused (λ o e. tell o (known_is n s o e))
+status_cases P n s refused answer = by_test P s (existing_object n s) _ refused (λ o e. answer o (known_is n s o e))
 
 -- ---- the limits
 

@@ -1,6 +1,7 @@
 -- No object is passed over twice in favour of the same other one. An object that is chosen while another one waits and is due comes after it from then on,
 -- and isn't chosen before it again.
-use Rattle.std.proofs.Common.{◌≡◌, ◌≢◌, ℕ, zero, suc, ◌+◌, ◌<◌, ◌≤◌, ◌^◌, ◌==◌, ◌&&◌, ◌||◌, Bool, true, false, not, cond, List, [], ◌∷◌, length, Option, Some, None}
+use Rattle.std.proofs.Common.{◌≡◌, ◌≢◌, ℕ, zero, suc, ◌+◌, ◌<◌, ◌≤◌, ◌^◌, ◌==◌, ◌&&◌, ◌||◌, Bool, true, false, not, cond, List, [], ◌∷◌, length, Option, Some}
+use Rattle.std.proofs.Common.{None}
 use Rattle.std.proofs.Common.{refl, sym, ap, ◌∙◌, subst, arith, inl, inr, IfSome, is_some, option_and_then, option_map}
 use Rattle.std.specs.Prelude.{count_by, is_none, nat_le, nat_lt, slice_get, unwrap_or}
 use Rattle.std.specs.List.{cons_option, enumerate_from, filter_map, list_all, list_any}
@@ -13,7 +14,8 @@ use Rattle.ticket_steps.specs.History.{IsLegal}
 use Rattle.check_objects.specs.Configuration.{Configuration, NamedObject, objects_of}
 use Rattle.check_states.specs.declared.standing.Standing.{Standing}
 use Rattle.check_queue.specs.Order.{least}
-use Rattle.check_queue.proofs.LeastLaws.{FoundLeast, IsLeast, all_at, all_at_least, all_filtered, any_filtered, is_no_later, is_same, least_is_found, no_later_time, or_true}
+use Rattle.check_queue.proofs.LeastLaws.{FoundLeast, IsLeast, all_at, all_at_least, all_filtered, any_filtered, is_no_later, is_same, least_is_found}
+use Rattle.check_queue.proofs.LeastLaws.{no_later_time, or_true}
 use Rattle.check_saved_state.specs.Scheduling.{OpenRun, Scheduling}
 use Rattle.check_sched.specs.declared.call.Call.{Call}
 use Rattle.check_sched.specs.declared.call.Call.TheVariants as call
@@ -23,12 +25,14 @@ use Rattle.check_sched.specs.Candidate.{Candidate, candidate, candidates_among}
 use Rattle.check_sched.specs.Intervals.{interval_for_standing, intervals_for, time_after}
 use Rattle.check_sched.specs.PassedOver.{can_choose, chosen_by, choices_with, is_among, is_due, lets_none_in}
 use Rattle.check_sched.specs.Report.{next_after, put_off_until}
-use Rattle.check_sched.specs.Scheduling.{candidate_time, enabled_as, freed_time, object_after_reschedule, object_after_run, object_with_run, put_off_to, run_under}
+use Rattle.check_sched.specs.Scheduling.{candidate_time, enabled_as, freed_time, object_after_reschedule, object_after_run, object_with_run, put_off_to}
+use Rattle.check_sched.specs.Scheduling.{run_under}
 use Rattle.check_sched.specs.State.{State, scheduling_at}
-use Rattle.check_sched.specs.Step.{candidates, due_candidates, eligible_candidates, existing_object, is_held_back, is_startable, moment_test, new_standing_in, put_off}
+use Rattle.check_sched.specs.Step.{candidates, due_candidates, eligible_candidates, existing_object, is_held_back, is_startable, moment_test, new_standing_in}
+use Rattle.check_sched.specs.Step.{put_off}
 use Rattle.check_sched.specs.Step.{state_after_take, state_found_in, step, take_least, update_at}
 use Rattle.check_sched.proofs.AnswerLaws.{by_test, known_is, under_is}
-use Rattle.check_sched.proofs.EligibleLaws.{eligible_open, filtered_pass, waiting_cases}
+use Rattle.check_sched.proofs.EligibleLaws.{eligible_open, filtered_meet, waiting_cases}
 use Rattle.check_sched.proofs.LastingLaws.{changed}
 use Rattle.check_sched.proofs.OperatorLaws.{enable_cases, reschedule_cases, status_cases}
 use Rattle.check_sched.proofs.ReportLaws.{report_cases}
@@ -70,7 +74,7 @@ eligible_timed now s =
 
 eligible_due : (now : ℕ) (s : State) → list_all (λ x. nat_le x.0 now) (eligible_candidates now s) ≡ true
 eligible_due now s =
-    all_filtered (λ x. nat_le x.0 now) (λ x. is_startable s x.1) (due_candidates now s) (filtered_pass (λ x. nat_le x.0 now) (candidates s))
+    all_filtered (λ x. nat_le x.0 now) (λ x. is_startable s x.1) (due_candidates now s) (filtered_meet (λ x. nat_le x.0 now) (candidates s))
 
 free_by : (free may : Bool) (next : Option ℕ) (t : ℕ) → cond (free && may) next None ≡ Some t → (free ≡ true) × (next ≡ Some t)
 free_by true true next t e = (refl, e)
@@ -178,7 +182,7 @@ module _ (w time : ℕ) where
   abbrev Waits : List Scheduling → Type 0
   Waits xs = ((scheduling_at xs w).next ≡ Some time) × ((scheduling_at xs w).run ≡ None)
 
-  -- What a call does. The object goes on waiting, unless it was chosen. What comes after it goes on doing so. What was chosen came before it, and comes
+  -- What a call does. The object continues waiting, unless it was chosen. What comes after it continues doing so. What was chosen came before it, and comes
   -- after it now.
   record Goes (before : List Scheduling) (chosen : Option ℕ) (after : List Scheduling) : Type 0 where
     waits : chosen ≢ Some w → Waits after

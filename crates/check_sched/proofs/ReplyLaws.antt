@@ -56,13 +56,13 @@ range_test late = cond late (Err refusal.TimeRange) (Ok tt)
 abbrev left_test : Bool → Result (Unit {0}) Refusal
 left_test left = cond left (Ok tt) (Err refusal.RunsSpent)
 
-turn_reply : (s : State) (now : ℕ) (found : Option Candidate) → IsTakeReply (take_least now s found).1
-turn_reply s now found = take_by (λ a. IsTakeReply a.1) now s found (λ c e. tt) (λ c e. tt) (λ e. waiting_cases IsTakeReply now s tt tt)
+chosen_reply : (s : State) (now : ℕ) (found : Option Candidate) → IsTakeReply (take_least now s found).1
+chosen_reply s now found = take_by (λ a. IsTakeReply a.1) now s found (λ c e. tt) (λ c e. tt) (λ e. waiting_cases IsTakeReply now s tt tt)
 
 take_tests : (s : State) (now : ℕ) (late left : Bool)
     → IsTakeReply (step_of_answer s (range_test late >>= λ _. (left_test left >>= λ _. Ok (take_least now s (least (eligible_candidates now s)))))).1
 take_tests s now true left = tt
-take_tests s now false true = turn_reply s now (least (eligible_candidates now s))
+take_tests s now false true = chosen_reply s now (least (eligible_candidates now s))
 take_tests s now false false = tt
 
 -- a take has a take's reply

@@ -201,10 +201,10 @@ report_cases P n run c s refused take =
     (λ r f. take o r (known_is n s o e) (under_is run o.run r f)))
 
 -- by the state that it finds, and by the standing and the next time that it makes
-pub told_answers : (n start : ℕ) (c : Code) (already : Option ℕ) (s : State) (found : rules.State) (standing : Standing) (next : Option ℕ)
+pub report_answers : (n start : ℕ) (c : Code) (already : Option ℕ) (s : State) (found : rules.State) (standing : Standing) (next : Option ℕ)
     → found ≡ state_found_in s n c → standing ≡ new_standing_in s n found → next ≡ next_after s.setup n standing start already
     → report_result n start c already s ≡ (state_after_report n found standing next s, standing_reply n standing next s)
-told_answers n start c already s found standing next i j k =
+report_answers n start c already s found standing next i j k =
     ap (λ u. answered u (new_standing_in s n u) (next_after s.setup n (new_standing_in s n u) start already)) (sym i)
     ∙ ap (λ t. answered found t (next_after s.setup n t start already)) (sym j)
     ∙ ap (λ x. answered found standing x) (sym k)

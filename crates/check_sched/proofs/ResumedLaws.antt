@@ -1,4 +1,4 @@
--- Laws of the state in which a scheduler goes on: it is one that a scheduler can be in, whatever setup it goes on over.
+-- Laws of the state in which a scheduler continues: it is one that a scheduler can be in, whatever setup it continues over.
 use Rattle.std.proofs.Common.{◌≡◌, ℕ, zero, suc, ◌+◌, ◌<◌, ◌≤◌, ◌^◌, ◌==◌, ◌&&◌, ◌||◌, ◌++◌, Bool, true, false, cond, List, [], ◌∷◌, length, map, drop}
 use Rattle.std.proofs.Common.{take, min, Option, Some, None, option_map, refl, sym, ap, subst, ◌∙◌, arith, get_or, IfSome, bytes_eq}
 use Rattle.std.specs.Prelude.{All, find, is_some, nat_lt, not, slice_get, unwrap_or}
@@ -150,7 +150,7 @@ made_timed setup first o (Some saved) h =
     timed_by (keeps_time setup o saved) saved.scheduling.forced saved.scheduling.next (earlier saved.scheduling.next first)
     (λ forced. or_right _ saved.scheduling.forced forced) h
 
--- ---- runs that are given up
+-- ---- runs that are abandoned
 
 given_none : (now : ℕ) (o : Scheduling) (run : Option OpenRun) → o.run ≡ run → (object_after_abandon now o).run ≡ None
 given_none now o None e = rw e refl
@@ -181,7 +181,7 @@ all_changed : {X : Type 0} (p : X → Bool) (f : X → X) (xs : List X) → ((x 
 all_changed p f [] h e = refl
 all_changed p f (x ∷ xs) h e = let b = and_parts (p x) (list_all p xs) e in and_from (p (f x)) _ (h x b.0) (all_changed p f xs h b.1)
 
--- the objects with the runs of all services given up
+-- the objects with the runs of all services abandoned
 abbrev pub freed : ℕ → ℕ → List Scheduling → List Scheduling
 freed hosts now objects = take hosts objects ++ map (object_after_abandon now) (drop hosts objects)
 
@@ -192,7 +192,7 @@ within_by : (P : List Scheduling → Type 0) (setup : Configuration) (now : ℕ)
 within_by P setup now objects true e report_unchanged give = rw e (report_unchanged e)
 within_by P setup now objects false e report_unchanged give = rw e give
 
--- what is true of the objects as they are, where they keep to the limit, and of those whose runs are given up
+-- what is true of the objects as they are, where they keep to the limit, and of those whose runs are abandoned
 pub within_cases : (P : List Scheduling → Type 0) (setup : Configuration) (now : ℕ) (objects : List Scheduling)
     → ((limit_of setup == 0 || not (nat_lt (limit_of setup) (running_among (drop (host_count setup) objects)))) ≡ true → P objects)
     → P (freed (host_count setup) now objects) → P (within_limit setup now objects)
@@ -209,7 +209,7 @@ all_freed p hosts now objects h e =
     rw (list_all-append p (take hosts objects) (map (object_after_abandon now) (drop hosts objects)))
     (and_from _ _ (all_taken p hosts objects e) (all_changed p (object_after_abandon now) (drop hosts objects) h (all_dropped p hosts objects e)))
 
--- no service is out when all are given up
+-- no service is out when all are abandoned
 idle_freed : (hosts now : ℕ) (objects : List Scheduling) → running_among (drop hosts (freed hosts now objects)) ≡ 0
 idle_freed zero now objects = busy_none (object_after_abandon now) objects (λ o. ap is_some (given_none now o o.run refl))
 idle_freed (suc hosts) now [] = refl
@@ -405,7 +405,7 @@ length-state_after_resume c saved start =
     within_cases (λ os. length os ≡ object_count c) c start (each_object c made) (λ b. length-made c made)
     (length-freed (host_count c) start (each_object c made) ∙ length-made c made)
 
--- Whatever was saved, and whatever setup a scheduler goes on over: the state is one that a scheduler can be in.
+-- Whatever was saved, and whatever setup a scheduler continues over: the state is one that a scheduler can be in.
 pub resumed_is_state : (c : Configuration) (saved : Saved) (start : ℕ) → IsSetup c → IsSaved saved → start ≤ 2 ^ 60
     → All (λ first. IfSome first (λ time. time < 2 ^ 61)) (initial_times c start) → IsState (state_after_resume c saved start)
 resumed_is_state c saved start valid is m within =

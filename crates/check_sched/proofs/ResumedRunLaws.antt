@@ -1,4 +1,4 @@
--- Laws of the runs that are handed out, and of those that are still out, when a scheduler goes on from what was saved.
+-- Laws of the runs that are handed out, and of those that are still out, when a scheduler continues from what was saved.
 use Rattle.std.proofs.Common.{◌≡◌, ◌≢◌, ℕ, zero, suc, ◌-◌, ◌<◌, ◌≤◌, ◌==◌, ◌||◌, Bool, true, false, cond, List, [], ◌∷◌, ◌++◌, min}
 use Rattle.std.proofs.Common.{Option, Some, None, option_map, unwrap_or, refl, sym, ap, ◌∙◌, arith}
 use Rattle.std.specs.Prelude.{option_and_then}

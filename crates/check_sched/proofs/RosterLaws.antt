@@ -18,7 +18,7 @@ use Rattle.check_sched.specs.Candidate.{Candidate, candidates_among, earlier_of}
 use Rattle.check_sched.specs.Roster.{running_among, waiting_from, waiting_times}
 use Rattle.check_sched.specs.Scheduling.{candidate_time}
 use Rattle.check_saved_state.specs.Scheduling.{Scheduling}
-use Rattle.check_sched.proofs.EligibleLaws.{filtered_pass, numbered, numbered_first}
+use Rattle.check_sched.proofs.EligibleLaws.{filtered_meet, numbered, numbered_first}
 use Rattle.check_sched.proofs.LimitLaws.{busy_cons}
 
 -- ---- the times of those that wait
@@ -183,10 +183,10 @@ earlier_by hosts c d cs true e g h =
     (λ x f. let t = no_later_time c x f in no_later_holds d x (omega (arith, less, t)) (λ s. absurd (omega (arith, less, t, s)))) g.first) h.first
 earlier_by hosts c d cs false e g h =
     let le : c.0 ≤ d.0 = grind (arith, nat_tests, e) in
-    let host : c.1 < hosts = let t = all_at (is_first hosts) c (filter (is_first hosts) cs) g.among (filtered_pass (is_first hosts) cs) in
+    let host : c.1 < hosts = let t = all_at (is_first hosts) c (filter (is_first hosts) cs) g.among (filtered_meet (is_first hosts) cs) in
     grind (arith, nat_tests, t) in
     let service : hosts ≤ d.1 =
-    let t = all_at (λ x. not (is_first hosts x)) d (filter (λ x. not (is_first hosts x)) cs) h.among (filtered_pass (λ x. not (is_first hosts x)) cs) in
+    let t = all_at (λ x. not (is_first hosts x)) d (filter (λ x. not (is_first hosts x)) cs) h.among (filtered_meet (λ x. not (is_first hosts x)) cs) in
     grind (arith, nat_tests, t) in
     joined hosts c cs (any_unfiltered (is_same c) (is_first hosts) cs g.among) g.first
     (all_weaker (is_no_later d) (is_no_later c) (filter (λ x. not (is_first hosts x)) cs)

@@ -94,7 +94,7 @@ run_named s n run x q in_range under = rw (in_range, under_is run x.run q under)
 some_same : (x : Option ℕ) (a b : ℕ) → x ≡ Some a → x ≡ Some b → a ≡ b
 some_same x a b e f = let same : Some a ≡ Some b = sym e ∙ f in cc
 
--- a run that isn't the one that ends goes on
+-- a run that isn't the one that ends continues
 run_goes_on : (s : State) (n run o r : ℕ) (f : Scheduling → Scheduling) (x : Scheduling) (q : OpenRun) → slice_get s.objects n ≡ Some x
     → run_under run x.run ≡ Ok q → run_in o s.objects ≡ Some r → (n == o && (run == r)) ≡ false → run_in o (update_at n f s.objects) ≡ Some r
 run_goes_on s n run o r f x q in_range under h e = elim (cases_eq n o) [
@@ -106,7 +106,7 @@ run_goes_on s n run o r f x q in_range under h e = elim (cases_eq n o) [
   | inr other ↦ run_apart n o f s.objects other ∙ h
 ]
 
--- a run goes on until a call ends it
+-- a run continues until a call ends it
 step_keeps_run : (s : State) (c : Call) (o r : ℕ) → run_in o s.objects ≡ Some r → ends_by o r c (step s c).1 ≡ false → run_in o (step s c).0.objects ≡ Some r
 step_keeps_run s (call.Take now) o r h =
     take_cases (λ a. ends_by o r (call.Take now) a.1 ≡ false → run_in o a.0.objects ≡ Some r) now s
@@ -194,7 +194,7 @@ waiting_runs_by false s next = none_more s
 waiting_runs : (now : ℕ) (s : State) → s.runs ≡ s.runs + cond (takes_by (waiting_reply now s)) 1 0
 waiting_runs now s = waiting_runs_by (list_any (λ c. not (is_host s.setup c.1)) (due_candidates now s)) s (option_map (λ c. c.0) (least (candidates s)))
 
--- a run goes on through a history that doesn't end it
+-- a run continues through a history that doesn't end it
 pub keeps_running : (s : State) (h : List (Entry Call Reply)) (o r : ℕ) → IsLegal step s h → run_in o s.objects ≡ Some r → list_any (ends o r) h ≡ false
     → run_in o (replay step s h).objects ≡ Some r
 keeps_running s [] o r legal runs none = runs

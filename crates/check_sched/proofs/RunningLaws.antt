@@ -113,7 +113,7 @@ none_out made (x ∷ xs) (suc n) r h e = none_out made xs n r h e
 
 -- ---- forced marks
 
--- a mark that stands beside a time
+-- a mark that is next to a time
 pub timed_if : (next : Option ℕ) (forced : Bool) → (forced ≡ true → is_some next ≡ true) → is_timed next forced ≡ true
 timed_if (Some time) forced h = refl
 timed_if None true h = h refl

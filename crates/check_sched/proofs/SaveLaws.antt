@@ -1,4 +1,4 @@
--- What is kept of a scheduler, in whatever state it can be, is what one can go on from.
+-- What is kept of a scheduler, in whatever state it can be, is what one can continue from.
 use Rattle.std.proofs.Common.{◌≡◌, ℕ, zero, suc, ◌+◌, ◌<◌, ◌++◌, true, false, List, [], ◌∷◌, length, map, Option, Some, None, option_map}
 use Rattle.std.proofs.Common.{refl, sym, ap, subst, ◌∙◌, arith, inl, inr}
 use Rattle.std.specs.Prelude.{slice_get, nat_lt, unwrap_or, option_and_then}

@@ -64,7 +64,7 @@ places_none c objects = record {
   found = λ n l. ap (option_and_then (slice_get objects)) (get_or-replicate (object_count c) n None None l);
 }
 
--- what holds of the places from one on is what holds behind the one before it
+-- what holds of the places from one on is what holds after the one before it
 pub one_before : (c : Configuration) (objects : List SavedObject) (place : ℕ) (saved_indexes : List (Option ℕ)) → 0 < place → place ≤ length objects
     → AreSavedIndexes c objects (drop place objects) saved_indexes
     → record { in_range : place - 1 < length objects; was : AreSavedIndexes c objects (drop (place - 1 + 1) objects) saved_indexes }

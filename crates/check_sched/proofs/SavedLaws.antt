@@ -1,4 +1,4 @@
--- Laws of what is kept: over the same setup a scheduler goes on as if it had never been put down.
+-- Laws of what is kept: over the same setup a scheduler continues as if it had never been put down.
 use Rattle.std.proofs.Common.{◌≡◌, ℕ, zero, suc, ◌+◌, ◌-◌, ◌<◌, ◌≤◌, ◌==◌, ◌||◌, Bool, true, false, List, [], ◌∷◌, length, map, drop, min}
 use Rattle.std.proofs.Common.{Option, Some, refl, sym, ap, ◌∙◌, arith, bytes_eq}
 use Rattle.std.specs.Prelude.{find, nat_lt, not, slice_get}
@@ -73,7 +73,7 @@ found_saved s n o valid e =
 
 -- ---- what is made of each object
 
--- so many as there are objects, each what it is made of its object
+-- this many as there are objects, each what it is made of its object
 pub made_each : {X : Type 0} (made : ℕ × NamedObject → X) (k : ℕ) (os : List NamedObject) (xs : List X) → length xs ≡ length os
     → ((n : ℕ) (o : NamedObject) (x : X) → slice_get os n ≡ Some o → slice_get xs n ≡ Some x → made (k + n, o) ≡ x)
     → map made (enumerate_from k os) ≡ xs
@@ -148,7 +148,7 @@ objects_stay s start is =
     (λ n o x e f. rw (found_saved s n o is.valid_setup e, f, eq-eqb _ _ refl, switch_same o.object.enabled) refl))
     ∙ limit_stays s start is.limit
 
--- Over the same setup a scheduler goes on in the state in which it was put down, except for the start.
+-- Over the same setup a scheduler continues in the state in which it was put down, except for the start.
 pub resumed_same : (s : State) (start : ℕ) → IsState s → state_after_resume s.setup (saved_of s) start ≡ record s { start = start }
 resumed_same s start is = λ i. record {
   setup = s.setup;

@@ -1,4 +1,4 @@
--- The order of what is kept says nothing: in any order a scheduler goes on from it in the same state.
+-- The order of what is kept says nothing: in any order a scheduler continues from it in the same state.
 use Rattle.std.proofs.Common.{◌≡◌, ℕ, ◌+◌, ◌||◌, Bool, true, false, cond, List, [], ◌∷◌, map, Some, None, bytes_eq, refl, sym, ap, ◌∙◌}
 use Rattle.std.specs.Prelude.{find, slice_get}
 use Rattle.std.specs.List.{Contains, enumerate_from, list_any}

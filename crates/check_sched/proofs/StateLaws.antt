@@ -84,15 +84,15 @@ put_off_is_state now n s is m held =
     (λ o e t. let none = unforced_at s n o e (not_forced s n (is_forced s n) refl held) in
     timed_if until o.forced (λ forced. let clash : true ≡ false = sym forced ∙ none in cc))
 
-turn_is_state : (now n : ℕ) (s : State) (held : Bool) → is_held_back s n ≡ held → IsState s → now ≤ 2 ^ 60 → (is_held_back s n ≡ false → IsState (state_after_take now n s))
+chosen_is_state : (now n : ℕ) (s : State) (held : Bool) → is_held_back s n ≡ held → IsState s → now ≤ 2 ^ 60 → (is_held_back s n ≡ false → IsState (state_after_take now n s))
     → IsState (cond {A = State × Reply} held (put_off now n s, reply.PutOff n (put_off_until s.setup n now)) (state_after_take now n s, reply.Taken n (s.runs + 1))).0
-turn_is_state now n s true e is m take = put_off_is_state now n s is m e
-turn_is_state now n s false e is m take = take e
+chosen_is_state now n s true e is m take = put_off_is_state now n s is m e
+chosen_is_state now n s false e is m take = take e
 
 least_is_state : (now : ℕ) (s : State) (found : Option Candidate) → least (eligible_candidates now s) ≡ found → IsState s → now ≤ 2 ^ 60 → s.runs < 2 ^ 60
     → IsState (take_least now s found).0
 least_is_state now s (Some c) e is m r =
-    turn_is_state now c.1 s (is_held_back s c.1) refl is m (λ free. taken_is_state now c.1 s is m r (eligible_open now s c e))
+    chosen_is_state now c.1 s (is_held_back s c.1) refl is m (λ free. taken_is_state now c.1 s is m r (eligible_open now s c e))
 least_is_state now s None e is m r = is
 
 -- Every call leaves a state that a scheduler can be in.
@@ -149,7 +149,7 @@ pub joined_legal : (s : State) (before later : List (Entry Call Reply)) → IsLe
 joined_legal s [] later legal more = more
 joined_legal s (e ∷ before) later legal more = (legal.0, joined_legal (step s e.call).0 before later legal.1 more)
 
--- what is legal up to where a scheduler was put down, and from where one goes on over the same setup, is legal together
+-- what is legal up to where a scheduler was put down, and from where one continues over the same setup, is legal together
 pub legal_joined : (s : State) (before later : List (Entry Call Reply)) (start : ℕ) → IsState s → IsLegal step s before
     → IsLegal step (state_after_resume (replay step s before).setup (saved_of (replay step s before)) start) later → IsLegal step s (before ++ later)
 legal_joined s before later start is legal more =

@@ -90,8 +90,8 @@ pub steady_answer : (s : State) (n start : ℕ) (already : Option ℕ) → n < o
     let next = next_after s.setup n standing start already in
     report_result n start code.Ok already s ≡ (with_object n (object_after_run next) s, reply.Standing standing false next)
 steady_answer s n start already in_range is =
-    ap (λ u. told u (new_standing_in s n u)) (fine_found s n in_range)
-    ∙ ap (told (ok_or_up_state (is_host s.setup n))) (fine_judged s n is)
+    ap (λ u. answered u (new_standing_in s n u)) (fine_found s n in_range)
+    ∙ ap (answered (ok_or_up_state (is_host s.setup n))) (fine_judged s n is)
     ∙ (λ i. (still s n next is i, reply.Standing standing (same_state standing.state i) next))
   where
     standing : Standing
@@ -100,8 +100,8 @@ steady_answer s n start already in_range is =
     next : Option ℕ
     next = next_after s.setup n standing start already
 
-    told : rules.State → Standing → State × Reply
-    told u t = (state_after_report n u t (next_after s.setup n t start already) s, standing_reply n t (next_after s.setup n t start already) s)
+    answered : rules.State → Standing → State × Reply
+    answered u t = (state_after_report n u t (next_after s.setup n t start already) s, standing_reply n t (next_after s.setup n t start already) s)
 
 timed_by : (s : State) (n : ℕ) (next : Option ℕ) (found : Option Scheduling) → IsState s → slice_get s.objects n ≡ found
     → (is_some (option_and_then (λ o. o.next) found) ≡ true → is_some next ≡ true) → is_timed next (option_map_or (λ o. o.forced) found false) ≡ true

@@ -38,19 +38,19 @@ unblocked setup standings n none = sym (rules.unblocked setup standings n (nil_f
 
 -- ---- Take, by its answers
 
-turn_by : (P : State × Reply → Type 0) (now n : ℕ) (s : State) (held : Bool) → is_held_back s n ≡ held
+take_or_put_off : (P : State × Reply → Type 0) (now n : ℕ) (s : State) (held : Bool) → is_held_back s n ≡ held
     → (is_held_back s n ≡ true → P (put_off now n s, reply.PutOff n (put_off_until s.setup n now)))
     → (is_held_back s n ≡ false → P (state_after_take now n s, reply.Taken n (s.runs + 1)))
     → P (cond held (put_off now n s, reply.PutOff n (put_off_until s.setup n now)) (state_after_take now n s, reply.Taken n (s.runs + 1)))
-turn_by P now n s true e off on = off e
-turn_by P now n s false e off on = on e
+take_or_put_off P now n s true e off on = off e
+take_or_put_off P now n s false e off on = on e
 
 pub take_by : (P : State × Reply → Type 0) (now : ℕ) (s : State) (found : Option Candidate)
     → ((c : Candidate) → found ≡ Some c → P (put_off now c.1 s, reply.PutOff c.1 (put_off_until s.setup c.1 now)))
     → ((c : Candidate) → found ≡ Some c → P (state_after_take now c.1 s, reply.Taken c.1 (s.runs + 1)))
     → (found ≡ None → P (s, waiting_reply now s))
     → P (take_least now s found)
-take_by P now s (Some c) off take wait = turn_by P now c.1 s (is_held_back s c.1) refl (λ e. off c refl) (λ e. take c refl)
+take_by P now s (Some c) off take wait = take_or_put_off P now c.1 s (is_held_back s c.1) refl (λ e. off c refl) (λ e. take c refl)
 take_by P now s None off take wait = wait refl
 
 -- what is true of a Take is what is true of each of its answers

@@ -21,7 +21,7 @@ pub record IsCheckedAtIntervals (setup : Configuration) (number : ℕ) : Type 0 
 
 -- The reply to this call says that the object with this number has no next time: the object was put off without a time, or the call was a report of it,
 -- answered without a next time.
-abbrev pub TellsNoTime : ℕ → Call → Reply → Type 0
-TellsNoTime number c (reply.PutOff object until) = (object ≡ number) × (until ≡ None)
-TellsNoTime number (call.Report object run code) (reply.Standing standing changed next) = (object ≡ number) × (next ≡ None)
-TellsNoTime number c r = ⊥
+abbrev pub ShowsNoTime : ℕ → Call → Reply → Type 0
+ShowsNoTime number c (reply.PutOff object until) = (object ≡ number) × (until ≡ None)
+ShowsNoTime number (call.Report object run code) (reply.Standing standing changed next) = (object ≡ number) × (next ≡ None)
+ShowsNoTime number c r = ⊥

@@ -98,7 +98,7 @@ waiting_reply now s = if list_any (λ c. not (is_host s.setup c.1)) (due_candida
 abbrev pub is_forced : State → ℕ → Bool
 is_forced s number = option_map_or (λ o. o.forced) (slice_get s.objects number) false
 
--- Whether the object with this number isn't to be checked although its turn has come: some dependency of it fails, and its check isn't forced. ("Host
+-- Whether the object with this number isn't to be checked although it was chosen: some dependency of it fails, and its check isn't forced. ("Host
 -- and Service Dependencies"; in our own profile a forced check ignores dependencies.)
 abbrev pub is_held_back : State → ℕ → Bool
 is_held_back s number = not (is_forced s number) && is_blocked s.setup s.standings number
@@ -107,13 +107,13 @@ is_held_back s number = not (is_forced s number) && is_blocked s.setup s.standin
 abbrev pub put_off : ℕ → ℕ → State → State
 put_off now number s = with_object number (put_off_to (put_off_until s.setup number now)) s
 
--- the object whose turn it is, put off or checked
+-- the object that the take chose, put off or checked
 abbrev pub take_candidate : ℕ → ℕ → State → State × Reply
 take_candidate now number s =
     if is_held_back s number then (put_off now number s, reply.PutOff number (put_off_until s.setup number now))
     else (state_after_take now number s, reply.Taken number (s.runs + 1))
 
--- It is the turn of the least candidate whose check may begin, if there is one. (The order of equal times is our own profile: the least number.)
+-- A take chooses the least candidate whose check may begin, if there is one. (The order of equal times is our own profile: the least number.)
 abbrev pub take_least : ℕ → State → Option Candidate → State × Reply
 take_least now s (Some c) = take_candidate now c.1 s
 take_least now s None = (s, waiting_reply now s)

@@ -32,7 +32,7 @@ use Rattle.check_workers.proofs.TallyLemmas.{few_tally, tally_append}
 abbrev pub rounds_entries : ℕ → List Round → List (Entry Call Reply)
 rounds_entries number rounds = flat_map (round_entries number) rounds
 
--- so many moments are done
+-- this many moments are done
 pub record IsWorking (allows : ℕ → ℕ → ℕ → Code → Type 0) (moments : List ℕ) (before after : Caller Call Reply) (tally : Tally) : Type 0 where
   pub rounds : List Round
   pub allowed : All (IsRound allows) rounds

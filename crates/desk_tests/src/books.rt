@@ -1,5 +1,5 @@
 //! A core over the largest book. No clause states this, and no test over the C library shows it
-//! (`tests/c/books.c`).
+//! (`c/tests/books.c`).
 
 use check_book::Book;
 use check_book::laws::board_shows_standings;

@@ -1,4 +1,4 @@
-//! Facts that no clause states and no test over the C library shows (`tests/c/desks.c`): turns that come
+//! Facts that no clause states and no test over the C library shows (`c/tests/desks.c`): turns that come
 //! while another pass waits, and glances while another pass holds.
 
 ghost use Rattle.check_desk.specs.Desks.{IsHolderAt, IsPassOf, IsWaitingAt};
@@ -66,8 +66,8 @@ fn ask_at_once(rt: &impl Abort, desk: &Desk, pass: Pass, call: Call) -> Pass
     pass
 }
 
-/// So many rounds in which one thread asks by both passes, each at once.
-fn ask_in_turn(
+/// This many rounds in which one thread asks by both passes, each at once.
+fn ask_alternately(
     rt: &impl Abort,
     desk: &Desk,
     mut first: Pass,
@@ -84,7 +84,7 @@ fn ask_in_turn(
     (first, second)
 }
 
-/// So many calls of one pass, each waiting for its turn.
+/// This many calls of one pass, each waiting for its turn.
 fn ask_often(rt: &(impl Wait + Abort), desk: &Desk, mut pass: Pass, calls: u32) -> Pass
     requires { IsPassOf desk.now pass }
     ensures { IsPassOf desk.now result }
@@ -140,7 +140,7 @@ fn rounds_of_one_thread_and_then_two_threads(rt: HostRuntime) -> Result<(), Fail
     let (desk, first, second) = two_passes(rt.alloc(), ONE_SERVICE)?;
     let first = ask_at_once(&rt, &desk, first, Call::Take { now: 0 });
     let second = ask_at_once(&rt, &desk, second, STATUS);
-    let (first, second) = ask_in_turn(&rt, &desk, first, second, 50);
+    let (first, second) = ask_alternately(&rt, &desk, first, second, 50);
     let (first, second) = join(
         &rt,
         || -> Pass

@@ -1,4 +1,4 @@
-//! Facts that no clause states: worked turns, successful calls, glances before and after a post, two
+//! Facts that no clause states: worked calls, successful calls, glances before and after a post, two
 //! threads, and out of memory.
 //!
 //! The test of one thread also passes if any one request for memory is refused (`rt try --test --fail-alloc
@@ -8,6 +8,7 @@ ghost use Rattle.std.specs.Prelude.{◌≡◌, ◌<◌, ◌≤◌, IfOk};
 ghost use Rattle.ticket_lock.specs.Tokens.{IsSeatOf, IsTurnOf};
 
 use crate::books::{assert_entries, empty_book, entry};
+use calls::try_call;
 use std::alloc::{AllocError, Global};
 use std::process::Abort;
 use std::test::Fail;
@@ -15,9 +16,8 @@ use std::thread::join;
 use ticket_lock::{Look, Seat, TicketLock, Turn, every_step};
 use ticket_steps::Kept;
 use ticket_steps::counter::CounterBook;
-use turns::take_turn;
 
-mod turns;
+mod calls;
 
 /// A lock over a book of counts.
 type Lock = TicketLock<CounterBook>;
@@ -93,18 +93,18 @@ fn turn_that_waits(rt: &impl Abort, lock: &Lock, turn: LockTurn) -> LockTurn
     requires { IsTurnOf lock.now turn }
     ensures { IsTurnOf lock.now result }
 {
-    match take_turn(lock, turn, 7) {
+    match try_call(lock, turn, 7) {
         Ok((_seat, _reply)) => panic!(rt; "held too early"),
         Err(turn) => turn,
     }
 }
 
-/// The seat after its turn. A test of a turn that has to wait, or that gets another reply, fails.
-fn seat_after_turn(rt: &impl Abort, lock: &Lock, turn: LockTurn, call: u8, reply: u64) -> LockSeat
+/// The seat after its call. A test of a turn that has to wait, or that gets another reply, fails.
+fn seat_after_call(rt: &impl Abort, lock: &Lock, turn: LockTurn, call: u8, reply: u64) -> LockSeat
     requires { IsTurnOf lock.now turn }
     ensures { IsSeatOf lock.now result }
 {
-    match take_turn(lock, turn, call) {
+    match try_call(lock, turn, call) {
         Ok((seat, replied)) => {
             assert!(rt; replied == Ok(reply));
             seat
@@ -151,27 +151,27 @@ fn book_of(rt: &impl Abort, lock: Lock, seat: LockSeat) -> CounterBook
     }
 }
 
-/// Two seats after one turn each. The second seat also looks before it is served.
-fn two_turns(rt: &impl Abort, lock: &Lock, first: LockSeat, second: LockSeat) -> TwoSeats
+/// Two seats after one call each. The second seat also looks before it is served.
+fn two_calls(rt: &impl Abort, lock: &Lock, first: LockSeat, second: LockSeat) -> TwoSeats
     requires { IsSeatOf lock.now first × IsSeatOf lock.now second }
     ensures { IsSeatOf lock.now result.0 × IsSeatOf lock.now result.1 }
 {
     let a = draw(rt, lock, first, 0);
     let b = draw(rt, lock, second, 1);
     let b = turn_that_waits(rt, lock, b);
-    let first = seat_after_turn(rt, lock, a, 5, 5);
-    let second = seat_after_turn(rt, lock, b, 7, 12);
+    let first = seat_after_call(rt, lock, a, 5, 5);
+    let second = seat_after_call(rt, lock, b, 7, 12);
     (first, seat_after_glance(rt, lock, second, 12))
 }
 
 #[test]
-fn two_seats_take_turns(rt: HostRuntime) -> Result<(), Fail> {
+fn two_seats_make_calls(rt: HostRuntime) -> Result<(), Fail> {
     let (lock, first, second) = two_seats(rt.alloc(), 10)?;
     assert_unused(&rt, &first, 0);
     assert_unused(&rt, &second, 1);
     let first = seat_after_glance(&rt, &lock, first, 0);
     assert_unused(&rt, &first, 0);
-    let (first, second) = two_turns(&rt, &lock, first, second);
+    let (first, second) = two_calls(&rt, &lock, first, second);
     let (lock, first) = open_with_one_seat(&rt, lock, first);
     let seat = lock.gather(first, second);
     assert!(rt; seat.calls() == 2 && seat.count() == 2 && !seat.fresh());
@@ -182,7 +182,7 @@ fn two_seats_take_turns(rt: HostRuntime) -> Result<(), Fail> {
     Ok(())
 }
 
-/// Two seats after a turn of the first, in which the second glances at the board before and after the post.
+/// Two seats after a call of the first, in which the second glances at the board before and after the post.
 fn glances_at_a_post(rt: &impl Abort, lock: &Lock, first: LockSeat, second: LockSeat) -> TwoSeats
     requires { IsSeatOf lock.now first × IsSeatOf lock.now second }
     ensures { IsSeatOf lock.now result.0 × IsSeatOf lock.now result.1 }
@@ -208,7 +208,7 @@ fn a_glance_reads_what_was_posted(rt: HostRuntime) -> Result<(), Fail> {
     let (lock, first, second) = two_seats(rt.alloc(), 10)?;
     let (first, second) = glances_at_a_post(&rt, &lock, first, second);
     let turn = draw(&rt, &lock, second, 1);
-    let second = seat_after_turn(&rt, &lock, turn, 0, 5);
+    let second = seat_after_call(&rt, &lock, turn, 0, 5);
     let second = seat_after_glance(&rt, &lock, second, 5);
     let seat = lock.gather(first, second);
     let book = book_of(&rt, lock, seat);
@@ -268,7 +268,7 @@ fn wait_and_add(lock: &Lock, mut turn: LockTurn) -> Result<LockSeat, Option<Lock
     ensures { IfOk result (λ seat. IsSeatOf lock.now seat) }
 {
     for _ in 0..LOOKS {
-        turn = match take_turn(lock, turn, 1) {
+        turn = match try_call(lock, turn, 1) {
             Ok((seat, _reply)) => return Ok(seat),
             Err(turn) => turn,
         };

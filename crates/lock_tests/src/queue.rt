@@ -65,7 +65,7 @@ fn a_number_past_the_bound_has_no_time(rt: HostRuntime) -> Result<(), Fail> {
     Ok(())
 }
 
-/// A queue of so many numbers, of which only the last has a time.
+/// A queue of this many numbers. Only the last has a time.
 fn has_room_for(rt: &impl Abort, alloc: Global, numbers: u32) -> Result<(), Fail>
     requires { 0 < numbers }
 {

@@ -66,7 +66,7 @@ const SECOND_LEAVES_WITH_0: Event<u8> = Leave {
     call: Some(0),
 };
 
-/// What a core answers to an event.
+/// The answer of a core to an event.
 type Answer = Result<Seen<u64>, Fault>;
 
 /// Makes an event on a core, and compares the answer with the expected one.
@@ -100,7 +100,7 @@ fn run_to_fault(rt: &impl Abort, core: &mut Core<CounterBook>, events: &[Event<u
 }
 
 #[test]
-fn two_seats_take_turns(rt: HostRuntime) -> Result<(), Fail> {
+fn two_seats_make_calls(rt: HostRuntime) -> Result<(), Fail> {
     let rows = &[
         (SPLIT, Ok(Seen::Split)),
         (Draw { seat: 0 }, Ok(Seen::Drew(0))),
@@ -288,7 +288,7 @@ fn records_or_refuses(book: &mut CounterBook) -> bool
 }
 
 /// A book with room for four calls gets 200. A call without memory is counted and changes nothing else.
-/// That happens only past the room, and later calls are answered as if it had not been made.
+/// This happens only past the room, and later calls are answered as if it had not been made.
 #[test]
 fn a_book_counts_what_it_refuses(rt: HostRuntime) -> Result<(), Fail> {
     let mut book = empty_book(rt.alloc(), 4)?;
@@ -316,7 +316,7 @@ fn draw_all(rt: &impl Abort, core: &mut Core<CounterBook>) {
     step(rt, core, Look { seat: 1023 }, Ok(Seen::Waiting));
 }
 
-/// Lets the seats take their turns, in the order of their draws, and gathers them.
+/// Lets the seats make their calls, in the order of their draws, and gathers them.
 fn serve_all(rt: &impl Abort, core: &mut Core<CounterBook>) {
     for seat in 0..SEATS {
         step(rt, core, Look { seat }, Ok(Seen::Held));
@@ -329,7 +329,7 @@ fn serve_all(rt: &impl Abort, core: &mut Core<CounterBook>) {
     }
 }
 
-/// As many seats as there can be, each with one turn, in the order of their draws.
+/// As many seats as there can be, each with one call, in the order of their draws.
 #[test]
 fn a_core_of_1024_seats(rt: HostRuntime) -> Result<(), Fail> {
     let mut core = core_of(rt.alloc(), SEATS, 1024)?;

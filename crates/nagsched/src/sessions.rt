@@ -1,5 +1,5 @@
 //! Tests of facts that no clause states and the built program doesn't show: which device a job says has failed,
-//! the one flush of a run, and the statuses of arguments. `.ci/devices.py` runs the built program over devices
+//! the one flush of a run, and the statuses of arguments. `.ci/program/devices.py` runs the built program over devices
 //! that fail, and looks at the order of its reads and writes.
 
 mod devices;

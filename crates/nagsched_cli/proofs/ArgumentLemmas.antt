@@ -45,14 +45,14 @@ reads_errors words (Err error.Refused) e same h = inr (sym same ∙ h)
 reads_errors words (Err error.Memory) e same h = absurd h
 
 -- an error of `clap` that is among the kinds of the words' faults
-pub tells_explains : (words : List Text) (k : ErrorKind) (e : WordsError)
+pub error_explains : (words : List Text) (k : ErrorKind) (e : WordsError)
     → (k ≡ kind.OutOfMemory) ⊎ IsAmong k (fault_of program words) → IsErrorFor k e → Explains words e
-tells_explains words k (error.Help text) (inl h) (inl t) = let bad : kind.DisplayHelp ≡ kind.OutOfMemory = sym t ∙ h in absurd (search (rules, bad))
-tells_explains words k (error.Help text) (inl h) (inr t) =
+error_explains words k (error.Help text) (inl h) (inl t) = let bad : kind.DisplayHelp ≡ kind.OutOfMemory = sym t ∙ h in absurd (search (rules, bad))
+error_explains words k (error.Help text) (inl h) (inr t) =
     let bad : kind.DisplayVersion ≡ kind.OutOfMemory = sym t.0 ∙ h in absurd (search (rules, bad))
-tells_explains words k (error.Help text) (inr h) (inl t) = inl (subst (λ (q : ErrorKind). IsAmong q (fault_of program words)) t h)
-tells_explains words k (error.Help text) (inr h) (inr t) =
+error_explains words k (error.Help text) (inr h) (inl t) = inl (subst (λ (q : ErrorKind). IsAmong q (fault_of program words)) t h)
+error_explains words k (error.Help text) (inr h) (inr t) =
     inr (subst (λ (q : ErrorKind). IsAmong q (fault_of program words)) t.0 h, t.1)
-tells_explains words k error.Refused (inl h) t = absurd (t.1 h)
-tells_explains words k error.Refused (inr h) t = inl (k, t.0, h)
-tells_explains words k error.Memory h t = tt
+error_explains words k error.Refused (inl h) t = absurd (t.1 h)
+error_explains words k error.Refused (inr h) t = inl (k, t.0, h)
+error_explains words k error.Memory h t = tt

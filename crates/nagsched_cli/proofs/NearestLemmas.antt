@@ -8,7 +8,7 @@ use Rattle.std.proofs.lemmas.List.Elements.{All-nil, All-push, All-weaker, Conta
 use Rattle.clap.specs.Words.{Text}
 use Rattle.nagsched_cli.specs.Nearest.{edits, IsNearest}
 
--- of these names this is the nearest, so many edits away; without one, three is the number to stay below
+-- of these names this is the nearest, this many edits away; without one, three is the number to stay below
 abbrev pub IsNearestYet : Text → List Text → Option Text → ℕ → Type 0
 IsNearestYet word names None least = (least ≡ 3) × All (λ name. 3 ≤ edits word name) names
 IsNearestYet word names (Some near) least =

@@ -1,4 +1,4 @@
--- The first argument that is wrong, and what is wrong with it.
+-- The first argument that is wrong, and its fault.
 use Rattle.std.specs.Prelude.{ℕ, ◌≡◌, ◌-◌, ◌<◌, ◌==◌, ◌&&◌, Bool, true, false, List, if◌then◌else◌, nat_lt, length, take, drop}
 use Rattle.std.specs.Prelude.{Option, Some, None, codes, is_some, slice_get, slice_index, unwrap_or, option_and_then}
 use Rattle.std.specs.List.{before_first, after_first, position_or_len, list_any}
@@ -46,9 +46,9 @@ attached_value word = if nat_lt (position_or_len (λ b. b == 61) word) (length w
 abbrev pub value_part : Text → Text
 value_part word = if is_option word then unwrap_or (attached_value word) word else word
 
--- ---- what is wrong with an argument
+-- ---- the fault of an argument
 
--- what is wrong with the value of an option: it isn't a number within the option's limits
+-- the fault of the value of an option: it isn't a number within the option's limits
 abbrev pub value_fault : Switch → Text → Option ArgumentFault
 value_fault s value = option_and_then (λ (l : Limits). if is_some (number_between l.least l.most value) then None else Some (fault.BadValue s)) (limits_of s)
 
@@ -56,15 +56,15 @@ value_fault s value = option_and_then (λ (l : Limits). if is_some (number_betwe
 abbrev pub waits_for_value : Option Text → Bool
 waits_for_value next = option_map_or is_option next true
 
--- what is wrong with an option without an attached value, before this argument
+-- the fault of an option without an attached value, before this argument
 abbrev pub bare_fault : Switch → Option Text → Option ArgumentFault
 bare_fault s next = if is_some (limits_of s) && waits_for_value next then Some (fault.MissingValue s) else None
 
--- what is wrong with an option that has this value attached
+-- the fault of an option that has this value attached
 abbrev pub attached_fault : Switch → Text → Option ArgumentFault
 attached_fault s value = if is_some (limits_of s) then value_fault s value else Some (fault.NeedlessValue s)
 
--- what is wrong with an option that has this value attached, or this argument after it
+-- the fault of an option that has this value attached, or this argument after it
 abbrev pub shape_fault : Switch → Option Text → Option Text → Option ArgumentFault
 shape_fault s None next = bare_fault s next
 shape_fault s (Some value) next = attached_fault s value
@@ -79,7 +79,7 @@ clashes switch.Line words = is_given switch.Resume words
 clashes switch.Resume words = is_given switch.Line words
 clashes s words = false
 
--- what is wrong with an option of the command, at a place
+-- the fault of an option of the command, at a place
 abbrev pub switch_fault : Switch → List Text → Text → ℕ → Option ArgumentFault
 switch_fault s words word place = if is_given s (take place words) then Some (fault.Repeated s)
     else (if clashes s (take place words) then Some fault.LineWithResume
@@ -89,7 +89,7 @@ abbrev pub named_fault : Topic → List Text → Text → ℕ → Option Switch 
 named_fault t words word place None = Some (fault.UnknownOption t)
 named_fault t words word place (Some s) = if has_switch t s then switch_fault s words word place else Some (fault.OtherCommands t s)
 
--- what is wrong with an option at a place
+-- the fault of an option at a place
 abbrev pub option_fault : Topic → List Text → Text → ℕ → Option ArgumentFault
 option_fault t words word place = if bytes_eq word (codes "--") then None else named_fault t words word place (named_switch (name_part word))
 
@@ -97,23 +97,23 @@ option_fault t words word place = if bytes_eq word (codes "--") then None else n
 abbrev pub valued_switch : Topic → Option Text → Option Switch
 valued_switch t previous = option_and_then (λ s. if has_switch t s && is_some (limits_of s) then Some s else None) (option_and_then named_switch previous)
 
--- what is wrong with an argument that isn't an option or its value
+-- the fault of an argument that isn't an option or its value
 abbrev pub word_fault : Topic → ArgumentFault
 word_fault topic.Program = fault.UnknownCommand
 word_fault t = fault.Needless t
 
--- what is wrong with an argument that isn't an option, by the option before it
+-- the fault of an argument that isn't an option, by the option before it
 abbrev pub plain_fault : Topic → Text → Option Switch → Option ArgumentFault
 plain_fault t word None = Some (word_fault t)
 plain_fault t word (Some s) = value_fault s word
 
--- what is wrong with the argument at a place, of a command but `help`, or of the program
+-- the fault of the argument at a place, of a command but `help`, or of the program
 abbrev pub argument_fault : Topic → List Text → Text → ℕ → Option ArgumentFault
 argument_fault t words word place = if is_dashes (previous_word words place) then Some (fault.Needless t)
     else (if is_option word then option_fault t words word place
     else plain_fault t word (valued_switch t (previous_word words place)))
 
--- what is wrong with the argument of `help` at a place: the first names a command, and no other can follow
+-- the fault of the argument of `help` at a place: the first names a command, and no other can follow
 abbrev pub help_fault : Text → ℕ → Option ArgumentFault
 help_fault word place = if nat_lt 0 place then Some (fault.Needless topic.Help)
     else (if is_some (named_topic word) then None else Some fault.UnknownCommand)
@@ -122,7 +122,7 @@ abbrev pub fault_of_word : Topic → List Text → ℕ → Text → Option Argum
 fault_of_word topic.Help words place word = help_fault word place
 fault_of_word t words place word = argument_fault t words word place
 
--- what is wrong with the argument at a place
+-- the fault of the argument at a place
 abbrev pub fault_at : Topic → List Text → ℕ → Option ArgumentFault
 fault_at t words place = option_and_then (fault_of_word t words place) (slice_get words place)
 

@@ -4,7 +4,8 @@ ghost use Rattle.std.specs.Prelude.{◌≡◌, option_map};
 ghost use Rattle.std.specs.List.{list_any};
 ghost use Rattle.std.specs.Str.{bytes_eq};
 ghost use Rattle.clap.specs.Walk.{texts};
-ghost use Rattle.nagsched_cli.specs.ArgumentFaults.{argument_fault, arguments_of, clashes, fault_at, help_fault, is_given, name_part, option_fault, shape_fault};
+ghost use Rattle.nagsched_cli.specs.ArgumentFaults.{argument_fault, arguments_of, clashes, fault_at, help_fault, is_given, name_part, option_fault};
+ghost use Rattle.nagsched_cli.specs.ArgumentFaults.{shape_fault};
 ghost use Rattle.nagsched_cli.specs.ArgumentFaults.{switch_fault, topic_of, value_fault, valued_switch, waits_for_value, word_fault, IsFirstFault};
 
 use crate::argument_names::{
@@ -16,7 +17,7 @@ use crate::argument_words::{
 };
 use crate::job::parse_number;
 
-/// What is wrong with an argument.
+/// The fault of an argument.
 #[derive(Clone, Copy, Debug, PartialEq, Eq)]
 pub enum ArgumentFault {
     /// No command has this name.
@@ -44,7 +45,7 @@ pub enum ArgumentFault {
 pub struct RefusedArgument {
     /// Its place among the arguments after the command, from 0.
     pub place: usize,
-    /// What is wrong with it.
+    /// Its fault.
     pub fault: ArgumentFault,
 }
 
@@ -82,7 +83,7 @@ pub(crate) fn first_fault(topic: Topic, arguments: &[&str]) -> Option<RefusedArg
     None
 }
 
-/// What is wrong with the argument at a place.
+/// The fault of the argument at a place.
 fn fault_at(topic: Topic, arguments: &[&str], place: usize) -> Option<ArgumentFault>
     ensures { result ≡ fault_at topic (texts arguments.now) place }
 {
@@ -93,7 +94,7 @@ fn fault_at(topic: Topic, arguments: &[&str], place: usize) -> Option<ArgumentFa
     }
 }
 
-/// What is wrong with the argument of `help` at a place. The first names a command, and no other can follow.
+/// The fault of the argument of `help` at a place. The first names a command, and no other can follow.
 fn help_fault(word: &str, place: usize) -> Option<ArgumentFault>
     ensures { result ≡ help_fault word.now place }
 {
@@ -106,7 +107,7 @@ fn help_fault(word: &str, place: usize) -> Option<ArgumentFault>
     }
 }
 
-/// What is wrong with the argument at a place, of another command or of the program.
+/// The fault of the argument at a place, of another command or of the program.
 fn argument_fault(
     topic: Topic,
     arguments: &[&str],
@@ -128,7 +129,7 @@ fn argument_fault(
     }
 }
 
-/// What is wrong with an argument that isn't an option or its value.
+/// The fault of an argument that isn't an option or its value.
 fn word_fault(topic: Topic) -> ArgumentFault
     ensures { result ≡ word_fault topic }
 {
@@ -150,7 +151,7 @@ fn valued_switch(topic: Topic, previous: Option<&str>) -> Option<Switch>
     }
 }
 
-/// What is wrong with the value of an option.
+/// The fault of the value of an option.
 fn value_fault(switch: Switch, value: &str) -> Option<ArgumentFault>
     ensures { result ≡ value_fault switch value.now }
 {
@@ -161,7 +162,7 @@ fn value_fault(switch: Switch, value: &str) -> Option<ArgumentFault>
     }
 }
 
-/// What is wrong with an option at a place.
+/// The fault of an option at a place.
 fn option_fault(topic: Topic, arguments: &[&str], word: &str, place: usize) -> Option<ArgumentFault>
     ensures { result ≡ option_fault topic (texts arguments.now) word.now place }
 {
@@ -175,7 +176,7 @@ fn option_fault(topic: Topic, arguments: &[&str], word: &str, place: usize) -> O
     }
 }
 
-/// What is wrong with an option of the command, at a place.
+/// The fault of an option of the command, at a place.
 fn switch_fault(
     switch: Switch,
     arguments: &[&str],
@@ -219,7 +220,7 @@ fn clashes(switch: Switch, words: &[&str]) -> bool
     }
 }
 
-/// What is wrong with an option that has this value attached, or this argument after it.
+/// The fault of an option that has this value attached, or this argument after it.
 fn shape_fault(switch: Switch, value: Option<&str>, next: Option<&str>) -> Option<ArgumentFault>
     ensures { result ≡ shape_fault switch (option_map (λ v. v.now) value.entry) (option_map (λ w. w.now) next.entry) }
 {

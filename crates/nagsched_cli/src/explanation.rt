@@ -38,7 +38,7 @@ pub fn explain_arguments(alloc: Global, words: &[&str]) -> Text
     }
 }
 
-/// What is wrong with one of these arguments.
+/// The fault of one of these arguments.
 fn argument_text(alloc: Global, arguments: &[&str], refused: RefusedArgument) -> Text
     ensures { IfOk result (λ text. IsArgumentText
         (unwrap_or (slice_get (texts arguments.now) refused.place) []) refused.fault (string_bytes text)) }
@@ -47,7 +47,7 @@ fn argument_text(alloc: Global, arguments: &[&str], refused: RefusedArgument) ->
     fault_text(alloc, word, refused.fault)
 }
 
-/// What is wrong with this argument.
+/// The fault of this argument.
 fn fault_text(alloc: Global, word: &str, fault: ArgumentFault) -> Text
     ensures { IfOk result (λ text. IsArgumentText word.now fault (string_bytes text)) }
 {

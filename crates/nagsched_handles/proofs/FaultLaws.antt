@@ -23,8 +23,8 @@ fault_is (fault.Range index) = ap fault.Range (number_is index)
 fault_is (fault.Unlawful index) = refl
 fault_is fault.Memory = refl
 
-pub faults_told : (a b : SavedFault) → c_fault a ≡ c_fault b → a ≡ b
-faults_told = output fault_from_c c_fault fault_is
+pub faults_distinct : (a b : SavedFault) → c_fault a ≡ c_fault b → a ≡ b
+faults_distinct = output fault_from_c c_fault fault_is
 
 pub no_fault : (plain : CRefusal) → c_fault (fault_from_c plain) ≢ plain → IsNoFault plain
 no_fault plain other e memory = none_has fault_from_c c_fault fault_is plain other e

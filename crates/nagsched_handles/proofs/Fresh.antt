@@ -19,7 +19,7 @@ use Rattle.nagsched_handles.specs.declared.target.HandleTarget.{HandleTarget}
 use Rattle.nagsched_handles.specs.declared.target.HandleTarget.TheVariants as target
 use Rattle.nagsched_handles.specs.Handles.{contents_of}
 use Rattle.nagsched_handles.specs.Opening.{IsFreshPassOf, IsOpenedWith}
-use Rattle.nagsched_handles.specs.Seats.{HasPass, HavePasses, IsSeatFor, IsSeatOf, IsSeatWithPass}
+use Rattle.nagsched_handles.specs.Places.{HasPass, HavePasses, IsPlaceFor, IsPlaceOf, IsPlaceWithPass}
 
 -- ---- passes put together
 
@@ -75,30 +75,31 @@ fresh_all calls desk n (p ∷ ps) new =
 
 -- ---- passes that are handed out one after another, from the last on
 
--- a seat of this desk is one for the passes of the desk
-pub seat_for : (desk : Shared) (pass : Pass) (seat : HandleTarget) → IsSeatOf desk seat → IsPassOf desk.desk pass → IsSeatFor pass seat
-seat_for desk pass (target.Pass place) of own = subst (λ (d : Shared). IsPassOf d.desk pass) (sym of) own
-seat_for desk pass target.Nothing of own = absurd of
-seat_for desk pass (target.Setup named) of own = absurd of
-seat_for desk pass (target.Book named) of own = absurd of
-seat_for desk pass (target.History entries) of own = absurd of
+-- a place of this desk is one for the passes of the desk
+pub place_for : (desk : Shared) (pass : Pass) (place : HandleTarget) → IsPlaceOf desk place → IsPassOf desk.desk pass → IsPlaceFor pass place
+place_for desk pass (target.Pass place) of own = subst (λ (d : Shared). IsPassOf d.desk pass) (sym of) own
+place_for desk pass target.Nothing of own = absurd of
+place_for desk pass (target.Setup named) of own = absurd of
+place_for desk pass (target.Book named) of own = absurd of
+place_for desk pass (target.History entries) of own = absurd of
 
 -- and with such a pass it has the pass
-pub seated : (desk : Shared) (pass : Pass) (seat taken : HandleTarget) → IsSeatOf desk seat → IsSeatWithPass pass seat taken → HasPass desk pass (Some taken)
-seated desk pass (target.Pass place) (target.Pass filled) of has = (ap arc_value has.0 ∙ of, has.1)
-seated desk pass (target.Pass place) target.Nothing of has = absurd has
-seated desk pass (target.Pass place) (target.Setup named) of has = absurd has
-seated desk pass (target.Pass place) (target.Book named) of has = absurd has
-seated desk pass (target.Pass place) (target.History entries) of has = absurd has
-seated desk pass target.Nothing taken of has = absurd of
-seated desk pass (target.Setup named) taken of has = absurd of
-seated desk pass (target.Book named) taken of has = absurd of
-seated desk pass (target.History entries) taken of has = absurd of
+pub has_pass : (desk : Shared) (pass : Pass) (place taken : HandleTarget) → IsPlaceOf desk place → IsPlaceWithPass pass place taken
+    → HasPass desk pass (Some taken)
+has_pass desk pass (target.Pass place) (target.Pass filled) of has = (ap arc_value has.0 ∙ of, has.1)
+has_pass desk pass (target.Pass place) target.Nothing of has = absurd has
+has_pass desk pass (target.Pass place) (target.Setup named) of has = absurd has
+has_pass desk pass (target.Pass place) (target.Book named) of has = absurd has
+has_pass desk pass (target.Pass place) (target.History entries) of has = absurd has
+has_pass desk pass target.Nothing taken of has = absurd of
+has_pass desk pass (target.Setup named) taken of has = absurd of
+has_pass desk pass (target.Book named) taken of has = absurd of
+has_pass desk pass (target.History entries) taken of has = absurd of
 
 -- one pass more, in the handle before the others
-pub handed : (desk : Shared) (i : ℕ) (p : Pass) (h : Handle) (ps : List Pass) (hs : List Handle) → i < length hs → HasPass desk p (contents_of h)
+pub one_more_filled : (desk : Shared) (i : ℕ) (p : Pass) (h : Handle) (ps : List Pass) (hs : List Handle) → i < length hs → HasPass desk p (contents_of h)
     → HavePasses desk ps (drop (i + 1) hs) → HavePasses desk (p ∷ ps) (drop i (set hs i h))
-handed desk i p h ps hs less has rest = rw (drop-set hs i h less) (has, rest)
+one_more_filled desk i p h ps hs less has rest = rw (drop-set hs i h less) (has, rest)
 
 same_length : (desk : Shared) (ps : List Pass) (hs : List Handle) → HavePasses desk ps hs → length ps ≡ length hs
 same_length desk [] [] has = refl
@@ -116,5 +117,5 @@ opened terms opening desk ps hs marked with all new has = record {
   all = all ∙ same_length desk ps hs has;
   passes = ps;
   new = new;
-  seated = has;
+  has_passes = has;
 }

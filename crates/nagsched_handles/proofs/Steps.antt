@@ -22,7 +22,7 @@ begun desk call pass turn tried.Spent after left is looked = absurd looked
 begun desk call pass turn tried.NotYet after left is looked = (left, (turn, is, looked))
 begun desk call pass turn tried.OtherWaits after left is looked = (left, (turn, is, looked))
 
--- one that can go on, and looks by its turn, has gone on
+-- one that can continue, and looks by its turn, has continued
 pub advanced : (desk : Desk) (call : Call) (before : PassState) (turn : Turn) (made : Step) (after : PassState) → MayContinue call before → HasTurn before turn
     → HasLooked desk call turn made after → HasAdvanced desk call before made after
 advanced desk call (state.Resting pass) turn made after may has looked = begun desk call pass turn made after may has looked

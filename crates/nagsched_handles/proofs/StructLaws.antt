@@ -147,20 +147,20 @@ refusal_is e =
     (λ i. unwrap_or (numbered_error (kind_of_struct (error_number e) (place_of e) i) (place_of_struct (error_number e) (place_of e) i)) load.Memory)
     ∙ error_numbered e (record { part = part.HostDependencies; index = None })
 
-pub standings_told : (a b : Standing) → c_standing a ≡ c_standing b → a ≡ b
-standings_told = output standing_from_c c_standing standing_is
+pub standings_distinct : (a b : Standing) → c_standing a ≡ c_standing b → a ≡ b
+standings_distinct = output standing_from_c c_standing standing_is
 
-pub calls_told : (a b : Call) → c_call a ≡ c_call b → a ≡ b
-calls_told = output call_from_c c_call call_is
+pub calls_distinct : (a b : Call) → c_call a ≡ c_call b → a ≡ b
+calls_distinct = output call_from_c c_call call_is
 
-pub replies_told : (a b : Reply) → c_reply a ≡ c_reply b → a ≡ b
-replies_told = output reply_from_c c_reply reply_is
+pub replies_distinct : (a b : Reply) → c_reply a ≡ c_reply b → a ≡ b
+replies_distinct = output reply_from_c c_reply reply_is
 
-pub entries_told : (a b : Entry Call Reply) → c_entry a ≡ c_entry b → a ≡ b
-entries_told = output entry_from_c c_entry entry_is
+pub entries_distinct : (a b : Entry Call Reply) → c_entry a ≡ c_entry b → a ≡ b
+entries_distinct = output entry_from_c c_entry entry_is
 
-pub refusals_told : (a b : LoadError) → c_refusal a ≡ c_refusal b → a ≡ b
-refusals_told = output refusal_from_c c_refusal refusal_is
+pub refusals_distinct : (a b : LoadError) → c_refusal a ≡ c_refusal b → a ≡ b
+refusals_distinct = output refusal_from_c c_refusal refusal_is
 
 -- ---- structs that nothing has
 

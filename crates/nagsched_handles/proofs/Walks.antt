@@ -1,4 +1,4 @@
--- How a walk by hand through a function begins.
+-- The beginning of a manual walk through a function.
 use Rattle.std.proofs.Common.{◌≡◌, List, sym, subst}
 use seplogic.Ra.Ura.{Ura}
 use mir.Syntax.{Fn}

@@ -6,7 +6,7 @@ pub mod Desks
 pub mod Handles
 pub mod Reading
 pub mod Tries
-pub mod Seats
+pub mod Places
 pub mod Opening
 pub mod Joining
 pub mod Closing

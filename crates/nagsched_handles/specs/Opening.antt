@@ -17,7 +17,7 @@ use Rattle.nagsched_handles.specs.declared.shared.Shared.{Shared}
 use Rattle.nagsched_handles.specs.declared.pass_state.PassState.{PassState}
 use Rattle.nagsched_handles.specs.declared.pass_state.PassState.TheVariants as state
 use Rattle.nagsched_handles.specs.Desks.{desk_of, pass_state_of}
-use Rattle.nagsched_handles.specs.Seats.{HavePasses}
+use Rattle.nagsched_handles.specs.Places.{HavePasses}
 
 -- A desk can be opened on this target, on these terms. The target is a setup, or a book without entries and refusals, whose start and room are its own.
 abbrev pub IsSource : Terms → HandleTarget → Type 0
@@ -47,7 +47,7 @@ pub record IsOpenedWith (terms : Terms) (opening : BookState) (handles : List Ha
   pub all : passes_of shared.desk ≡ length handles
   pub passes : List Pass
   pub new : AreNewPassesWith terms.calls shared.desk 0 passes
-  pub seated : HavePasses shared passes handles
+  pub has_passes : HavePasses shared passes handles
 
 -- a desk was opened on this target, on these terms
 pub record IsOpenedBy (terms : Terms) (source : HandleTarget) (handles : List Handle) : Type 0 where

@@ -1,6 +1,6 @@
 //! Opens desks on a setup, or on a book without entries.
 //!
-//! The memory for a desk's seats is asked for before the desk opens. So if it is refused, the setup or
+//! The memory for the passes of a desk is asked for before the desk opens. So if it is refused, the setup or
 //! the book can be handed back.
 
 ghost use Rattle.std.specs.Prelude.{◌≡◌, ◌↔◌, ◌<◌, ◌≤◌, [], length, true, false, IfOk, IfErr, OnOk};
@@ -10,7 +10,7 @@ ghost use Rattle.check_desk.specs.Desks.{desk_opening, passes_of, AreNewPassesWi
 ghost use Rattle.check_desk.specs.Passes.{pass_of};
 ghost use Rattle.check_book.specs.BookState.{book_opening};
 ghost use Rattle.check_book.specs.Books.{entries_of, opening_of, refused_of};
-ghost use Rattle.nagsched_handles.specs.Seats.{HavePasses, IsSeatFor, IsSeatOf, IsSeatWithPass};
+ghost use Rattle.nagsched_handles.specs.Places.{HavePasses, IsPlaceFor, IsPlaceOf, IsPlaceWithPass};
 ghost use Rattle.nagsched_handles.specs.Opening.{IsAsSetup, IsHandedBack, IsHandedBackOf, IsBookBack, IsEmptyBack, IsSetupBack};
 ghost use Rattle.nagsched_handles.specs.Opening.{IsFreshPassOf, IsOpenedBy, IsOpenedWith, IsSource};
 
@@ -153,7 +153,7 @@ fn open_book(
     ensures err { IfErr result (λ back. IsBookBack named back × (handles.new ≡ handles.old)) }
 {
     let count = handles.len();
-    let Ok(seats) = prepare_seats(alloc, count) else {
+    let Ok(places) = prepare_places(alloc, count) else {
         return Err(HandleTarget::Book(named));
     };
     let NamedBook { book, names } = named;
@@ -165,35 +165,35 @@ fn open_book(
                 passes: count as u32,
                 mark: terms.mark,
             };
-            seat_all(alloc, shared, passes, seats, handles)
+            place_all(alloc, shared, passes, places, handles)
         }
         Err(book) => Err(HandleTarget::Book(NamedBook { book, names })),
     }
 }
 
-/// Asks for the seats of a desk: a place on the heap for each of its passes.
-fn prepare_seats(alloc: Global, count: usize) -> Result<Vec<Box<HandleTarget>>, AllocError>
-    ensures { IfOk result (λ seats. length seats.items ≡ count) }
+/// Asks for a place on the heap for each pass of a desk.
+fn prepare_places(alloc: Global, count: usize) -> Result<Vec<Box<HandleTarget>>, AllocError>
+    ensures { IfOk result (λ places. length places.items ≡ count) }
 {
-    let mut seats = Vec::with_capacity(alloc, count)?;
-    for _seat in 0..count {
-        seats.push_reserved(HandleTarget::vacant_place(alloc)?);
+    let mut places = Vec::with_capacity(alloc, count)?;
+    for _place in 0..count {
+        places.push_reserved(HandleTarget::vacant_place(alloc)?);
     }
-    Ok(seats)
+    Ok(places)
 }
 
 /// Gives each handle a pass of the desk, or hands the book back.
-fn seat_all(
+fn place_all(
     alloc: Global,
     shared: Shared,
     passes: Vec<Pass>,
-    seats: Vec<Box<HandleTarget>>,
+    places: Vec<Box<HandleTarget>>,
     handles: &mut [Handle],
 ) -> Result<(), HandleTarget>
     requires fresh { All (IsFreshPassOf shared.desk) passes.items }
     requires nonempty { (0 < length passes.items) × (length passes.items ≤ 1024) }
     requires passes { length passes.items ≡ passes_of shared.desk }
-    requires seats { length seats.items ≡ length passes.items }
+    requires places { length places.items ≡ length passes.items }
     requires handles { length handles.old ≡ length passes.items }
     ensures ok { OnOk result (HavePasses shared passes.items handles.new) }
     ensures err { IfErr result (λ back.
@@ -201,25 +201,28 @@ fn seat_all(
 {
     match Arc::new(alloc, shared) {
         Ok(shared) => {
-            let mut seats = seats;
-            if share(&shared, &mut seats).is_err() {
+            let mut places = places;
+            if share(&shared, &mut places).is_err() {
                 return Err(reclaim_shared(shared, passes));
             }
-            hand_out(shared, passes, seats, handles);
+            hand_out(shared, passes, places, handles);
             Ok(())
         }
         Err(refused) => Err(HandleTarget::Book(reclaim(refused.value, passes))),
     }
 }
 
-/// Makes each seat one of the desk.
-fn share(shared: &Arc<Shared, Global>, seats: &mut Vec<Box<HandleTarget>>) -> Result<(), AllocError>
-    ensures count { length seats.new.items ≡ length seats.old.items }
-    ensures shared { OnOk result (All (λ seat. IsSeatOf (arc_value shared.now) seat.value) seats.new.items) }
+/// Makes each place one for a pass of the desk.
+fn share(
+    shared: &Arc<Shared, Global>,
+    places: &mut Vec<Box<HandleTarget>>,
+) -> Result<(), AllocError>
+    ensures count { length places.new.items ≡ length places.old.items }
+    ensures shared { OnOk result (All (λ place. IsPlaceOf (arc_value shared.now) place.value) places.new.items) }
 {
-    for at in 0..seats.len() {
-        let seat = HandleTarget::Pass(DeskPass::without_pass(Arc::try_clone(shared)?));
-        seats[at].put(seat);
+    for at in 0..places.len() {
+        let place = HandleTarget::Pass(DeskPass::without_pass(Arc::try_clone(shared)?));
+        places[at].put(place);
     }
     Ok(())
 }
@@ -276,38 +279,38 @@ fn gather_all(desk: &Desk, passes: Vec<Pass>) -> Pass
     whole
 }
 
-/// Gives each handle a seat with its pass: the first handle the first pass. The passes are then the only
+/// Gives each handle a place with its pass: the first handle the first pass. The passes are then the only
 /// owners of their desk.
 fn hand_out(
     shared: Arc<Shared, Global>,
     passes: Vec<Pass>,
-    seats: Vec<Box<HandleTarget>>,
+    places: Vec<Box<HandleTarget>>,
     handles: &mut [Handle],
 )
     requires fresh { All (IsFreshPassOf (arc_value shared).desk) passes.items }
-    requires seats { All (λ seat. IsSeatOf (arc_value shared) seat.value) seats.items }
-    requires count { length seats.items ≡ length passes.items }
+    requires places { All (λ place. IsPlaceOf (arc_value shared) place.value) places.items }
+    requires count { length places.items ≡ length passes.items }
     requires handles { length handles.old ≡ length passes.items }
     ensures { HavePasses (arc_value shared) passes.items handles.new }
 {
     let mut passes = passes;
-    let mut seats = seats;
+    let mut places = places;
     while let Some(pass) = passes.pop() {
-        let Some(mut seat) = seats.pop() else {
+        let Some(mut place) = places.pop() else {
             unreachable!()
         };
-        take_seat(&mut *seat, pass);
-        handles[passes.len()] = Handle::of(seat);
+        fill_place(&mut *place, pass);
+        handles[passes.len()] = Handle::of(place);
     }
 }
 
-/// Puts a pass into a vacant seat of its desk.
-fn take_seat(seat: &mut HandleTarget, pass: Pass)
-    requires { IsSeatFor pass seat.old }
-    ensures { IsSeatWithPass pass seat.old seat.new }
+/// Puts a pass into a vacant place of its desk.
+fn fill_place(place: &mut HandleTarget, pass: Pass)
+    requires { IsPlaceFor pass place.old }
+    ensures { IsPlaceWithPass pass place.old place.new }
 {
-    match seat {
-        HandleTarget::Pass(place) => place.set_pass(pass),
+    match place {
+        HandleTarget::Pass(vacant) => vacant.set_pass(pass),
         _ => unreachable!(),
     }
 }

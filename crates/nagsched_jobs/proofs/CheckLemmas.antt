@@ -21,7 +21,7 @@ use Rattle.nagsched_protocol.specs.declared.start.Start.{Start}
 use Rattle.nagsched_protocol.specs.declared.start.Start.TheVariants as start
 use Rattle.nagsched_jobs.specs.CheckEnded.{CheckEnded, IsSetupLineReport, IsReportFrom}
 use Rattle.nagsched_jobs.specs.Reading.{check_input_of, document_input_of}
-use Rattle.nagsched_jobs.proofs.CheckResumedLemmas.{resumed_told_of}
+use Rattle.nagsched_jobs.proofs.CheckResumedLemmas.{resumed_report_of}
 use Rattle.nagsched_jobs.proofs.ReadingLemmas.{cut_length, read_all, read_long}
 use Rattle.nagsched_protocol.proofs.ReadLemmas.{input_of, input_of-is}
 use Rattle.nagsched_protocol.proofs.WrittenLemmas.{Keeps-same}
@@ -60,38 +60,38 @@ refused_alike one other e text report same r = record {
 abbrev pub IsReportAs : (List ℕ → Configuration → List ℕ → Outcome → Type 0) → List ℕ → List ℕ → Outcome → Type 0
 IsReportAs Good document = IsReportBy (Good document) document (setup_of document)
 
-told_long : (Good : List ℕ → Configuration → List ℕ → Outcome → Type 0) (one other text : List ℕ) (report : Outcome) → setup_of one ≡ Err load.TooLong
+long_report : (Good : List ℕ → Configuration → List ℕ → Outcome → Type 0) (one other text : List ℕ) (report : Outcome) → setup_of one ≡ Err load.TooLong
     → setup_of other ≡ Err load.TooLong → document_tree one ≡ document_tree other → IsReportAs Good one text report → IsReportAs Good other text report
-told_long Good one other text report e f same h = rw f (refused_alike one other load.TooLong text report same (rw e at h))
+long_report Good one other text report e f same h = rw f (refused_alike one other load.TooLong text report same (rw e at h))
 
 read_by : (Good : List ℕ → Configuration → List ℕ → Outcome → Type 0) (bytes text : List ℕ) (report : Outcome)
     → (16777217 < length bytes) ⊎ (length bytes ≤ 16777217)
     → IsReportAs Good (without_last_feed (document_input_of bytes)) text report → IsReportAs Good (without_last_feed bytes) text report
 read_by Good bytes text report (inl long) h =
     let cut = cut_length bytes in
-    told_long Good (without_last_feed (document_input_of bytes)) (without_last_feed bytes) text report
+    long_report Good (without_last_feed (document_input_of bytes)) (without_last_feed bytes) text report
     (too_long (without_last_feed (document_input_of bytes)) (read_long bytes long))
     (too_long (without_last_feed bytes) (omega (arith, cut, long)))
     (document_long (without_last_feed (document_input_of bytes)) (read_long bytes long) ∙ sym (document_long (without_last_feed bytes) (omega (arith, cut, long)))) h
 read_by Good bytes text report (inr short) h = subst (λ read. IsReportAs Good (without_last_feed read) text report) (read_all bytes short) h
 
 -- what was printed of as much of an input as is read of a document is what is printed of the input
-pub told_of : (Good : List ℕ → Configuration → List ℕ → Outcome → Type 0) (had : Option (List ℕ)) (read text : List ℕ) (report : Outcome)
+pub report_of : (Good : List ℕ → Configuration → List ℕ → Outcome → Type 0) (had : Option (List ℕ)) (read text : List ℕ) (report : Outcome)
     → IfSome had (λ bytes. read ≡ document_input_of bytes)
     → IsReportAs Good (without_last_feed read) text report → IsReportAs Good (without_last_feed (input_of had read)) text report
-told_of Good None read text report all h = h
-told_of Good (Some bytes) read text report all h =
+report_of Good None read text report all h = h
+report_of Good (Some bytes) read text report all h =
     read_by Good bytes text report (cases_lt 16777217 (length bytes)) (subst (λ l. IsReportAs Good (without_last_feed l) text report) all h)
 
-pub line_told_of : (had : Option (List ℕ)) (read text : List ℕ) (report : Outcome) → IfSome had (λ bytes. read ≡ document_input_of bytes)
+pub line_report_of : (had : Option (List ℕ)) (read text : List ℕ) (report : Outcome) → IfSome had (λ bytes. read ≡ document_input_of bytes)
     → IsSetupLineReport read text report → IsSetupLineReport (input_of had read) text report
-line_told_of had read text report all h = told_of (λ d c t o. IsDocumentLine d t o ⊎ IsTooLong d t o) had read text report all h
+line_report_of had read text report all h = report_of (λ d c t o. IsDocumentLine d t o ⊎ IsTooLong d t o) had read text report all h
 
 -- the same of what was read for a start
-pub start_told_of : (how : Start) (had : Option (List ℕ)) (read text : List ℕ) (report : Outcome) → IfSome had (λ bytes. read ≡ check_input_of how bytes)
+pub start_report_of : (how : Start) (had : Option (List ℕ)) (read text : List ℕ) (report : Outcome) → IfSome had (λ bytes. read ≡ check_input_of how bytes)
     → IsReportFrom how read text report → IsReportFrom how (input_of had read) text report
-start_told_of (start.Fresh moment) had read text report all h = told_of (λ d. IsSummaryReport moment) had read text report all h
-start_told_of (start.Resumed moment) had read text report all h = resumed_told_of moment had read text report all h
+start_report_of (start.Fresh moment) had read text report all h = report_of (λ d. IsSummaryReport moment) had read text report all h
+start_report_of (start.Resumed moment) had read text report all h = resumed_report_of moment had read text report all h
 
 -- ---- how a check ends, where these texts and outcomes can be printed of an input
 
@@ -101,16 +101,16 @@ memory_is_no_write e memory write = let both : errors.Memory ≡ errors.Write = 
 write_is_no_memory : {A : Type 0} (e : DriveError) → e ≡ errors.Write → e ≡ errors.Memory → A
 write_is_no_memory e write memory = let both : errors.Write ≡ errors.Memory = sym write ∙ memory in cc
 
-told_none : (Can : List ℕ → Outcome → Type 0) (e : DriveError) (held : Option (List ℕ)) → e ≢ errors.Write → HasPrinted Can (Err e) held held
-told_none Can errors.Read held n = Keeps-same held
-told_none Can errors.Write held n = absurd (n refl)
-told_none Can errors.Memory held n = Keeps-same held
+unprinted_report : (Can : List ℕ → Outcome → Type 0) (e : DriveError) (held : Option (List ℕ)) → e ≢ errors.Write → HasPrinted Can (Err e) held held
+unprinted_report Can errors.Read held n = Keeps-same held
+unprinted_report Can errors.Write held n = absurd (n refl)
+unprinted_report Can errors.Memory held n = Keeps-same held
 
 -- an error before anything was written
 pub unwritten_check : (Can : List ℕ → List ℕ → Outcome → Type 0) (reads : List ℕ → List ℕ) (e : DriveError) (had left held : Option (List ℕ)) → e ≢ errors.Write
     → (e ≡ errors.Memory → HasStartedReading had left) → CheckEnded Can reads (Err e) (streams had left held held)
 unwritten_check Can reads e had left held n memory =
-    record { input = input_of had []; is_input = input_of-is had []; report = told_none (Can (input_of had [])) e held n; read = tt; memory = memory }
+    record { input = input_of had []; is_input = input_of-is had []; report = unprinted_report (Can (input_of had [])) e held n; read = tt; memory = memory }
 
 -- it couldn't be printed
 pub torn_check : (Can : List ℕ → List ℕ → Outcome → Type 0) (reads : List ℕ → List ℕ) (e : DriveError) (had left held holds : Option (List ℕ)) (read text : List ℕ)
@@ -239,15 +239,15 @@ line_too_long document c tree text report good long h =
     subst (λ t. (16777216 < length (compact_text t)) × IsFaultReport t fault.too_long text report) (same_tree document tree other read there)
     (long (good_floats document c tree good), h)))
 
--- ---- what is told of a document
+-- ---- the report on a document
 
-pub summary_told : (start : ℕ) (document : List ℕ) (c : Configuration) (tree : Data) (text : List ℕ) (report : Outcome) → IsGood document c tree
+pub summary_report : (start : ℕ) (document : List ℕ) (c : Configuration) (tree : Data) (text : List ℕ) (report : Outcome) → IsGood document c tree
     → IsSummaryReport start c text report → IsDocumentReport start document text report
-summary_told start document c tree text report good h = rw good.1 h
+summary_report start document c tree text report good h = rw good.1 h
 
-pub refused_told : (Good : Configuration → List ℕ → Outcome → Type 0) (document text : List ℕ) (report : Outcome)
+pub refused_report : (Good : Configuration → List ℕ → Outcome → Type 0) (document text : List ℕ) (report : Outcome)
     → (e : LoadError) × (setup_of document ≡ Err e) × IsRefusalReport document e text report → IsReportBy Good document (setup_of document) text report
-refused_told Good document text report (e, is, h) = rw is h
+refused_report Good document text report (e, is, h) = rw is h
 
 -- ---- the lines of a refusal
 

@@ -10,7 +10,8 @@ use Rattle.nagsched_protocol.specs.declared.input.TheConstants.{MAX_READ_BYTES}
 use Rattle.nagsched_protocol.specs.declared.drive_error.DriveError.{DriveError}
 use Rattle.nagsched_protocol.specs.declared.drive_error.DriveError.TheVariants as errors
 use Rattle.nagsched_protocol.specs.declared.outcome.Outcome.{Outcome}
-use Rattle.nagsched_jobs.specs.Drill.{DrillEnded, IsDrill, IsDrillWritten, IsTextOf, LeavesDrill, WroteDrill, WroteDrillFront, WroteDrillShort, drill_note, drill_outcome}
+use Rattle.nagsched_jobs.specs.Drill.{DrillEnded, IsDrill, IsDrillWritten, IsTextOf, LeavesDrill, WroteDrill, WroteDrillFront, WroteDrillShort, drill_note}
+use Rattle.nagsched_jobs.specs.Drill.{drill_outcome}
 use Rattle.nagsched_protocol.specs.DrillScript.{DrillScript, drill_script_of}
 use Rattle.setup_model.specs.Agreement.{IsExpectedError}
 use Rattle.nagsched_protocol.specs.declared.answer_form.AnswerForm.TheVariants as forms
@@ -25,7 +26,7 @@ use Rattle.nagsched_protocol.specs.Streams.{HasRead, outcome_by, streams}
 use Rattle.nagsched_protocol.specs.Text.{drill_text, refusal_line}
 use Rattle.nagsched_protocol.specs.Written.{IsLineWritten, IsTextWritten}
 use Rattle.nagsched_protocol.proofs.NoteLemmas.{line_text, note_of_read}
-use Rattle.nagsched_protocol.proofs.ReadLemmas.{IsOfRead, drill_script_take, has_read, input_of, input_of-is, input_of-says, limit_tells}
+use Rattle.nagsched_protocol.proofs.ReadLemmas.{IsOfRead, drill_script_take, has_read, input_of, input_of-is, input_of-says, refused_past_limit}
 use Rattle.nagsched_protocol.proofs.WrittenLemmas.{Keeps-same}
 use Rattle.nagsched_protocol.proofs.OutputLemmas.{Appends-Keeps, front_all}
 
@@ -81,7 +82,7 @@ refused_drill (script_errors.Refused why) start workers room input r held holds 
 
 drill_note_take : IsOfRead drill_note
 unfolding drill_note drill_script_of
-drill_note_take = note_of_read drill_script_of (limit_tells _)
+drill_note_take = note_of_read drill_script_of (refused_past_limit _)
 
 left_of : (had left : Option (List ℕ)) (read : List ℕ) → IfSome had (λ bytes. read ≡ take MAX_READ_BYTES bytes) → Consumes had left read
     → IfSome had (HasRead had left)

@@ -66,7 +66,7 @@ both false b e = cc
 pub is_long : (input : List ℕ) → is_full_with_feed input ≡ true → length input ≡ MAX_DOCUMENT_INPUT
 is_long input e = eqb-true (length input) MAX_DOCUMENT_INPUT (both (length input == MAX_DOCUMENT_INPUT) _ e)
 
--- after so many bytes it doesn't matter what else was read
+-- after this many bytes it doesn't matter what else was read
 pub started_on : (had mid left : Option (List ℕ)) (input behind : List ℕ) → HasStartedReadingBy had mid input → is_full_with_feed input ≡ true
     → HasStartedReadingBy mid left behind → HasStartedReadingBy had left (input ++ behind)
 started_on had mid left input behind h e b =

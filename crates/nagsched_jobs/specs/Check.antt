@@ -26,7 +26,7 @@ use Rattle.nagsched_protocol.specs.declared.outcome.Outcome.TheVariants as outco
 abbrev pub IsSummaryReport : ℕ → Configuration → List ℕ → Outcome → Type 0
 IsSummaryReport start c text ended = (text ≡ summary_text (summary_of c start)) × (ended ≡ outcome.Ran)
 
--- A refusal is told: by the line that a run on the document writes, and by one line more, which explains this fault over the document's tree; null
+-- A refusal is reported by the line that a run on the document writes, and by one line more, which explains this fault over the document's tree; null
 -- where there is none.
 abbrev pub IsFaultReport : Data → Fault → List ℕ → Outcome → Type 0
 IsFaultReport tree f text ended =
@@ -38,7 +38,7 @@ abbrev pub tree_in : Result Data Fault → Option Data
 tree_in (Ok tree) = Some tree
 tree_in (Err f) = None
 
--- A refused document: what is told is its fault, which has this refusal.
+-- A refused document: the report is its fault, which has this refusal.
 pub record IsRefusalReport (document : List ℕ) (e : LoadError) (text : List ℕ) (ended : Outcome) : Type 0 where
   pub found : Fault
   pub is : IsFaultOf document found

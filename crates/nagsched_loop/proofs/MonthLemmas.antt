@@ -95,13 +95,13 @@ text_after_store past book ended before after bytes text setup history none same
     ⊎_elim (λ old. inl old) (λ new. inr (of_end (subst (IsSavedText (sched_of ended)) (sym (new.0 ∙ ap Some is)) saved) new.1)) kept
   where
     of_end : IsSavedText (sched_of ended) after → past setup history → IsGenerationText past (sched_of book) after
-    of_end saved told =
+    of_end saved stored =
         let opened = ap (λ s. s.sched) same ∙ opened_at book none in
         let leads = history_leads (opening_of ended) (state_of ended) (entries_of ended) (refused_of ended) (sched_of book) lawful opened in
         record {
           history = entries_of ended;
           legal = legal_history (opening_of ended) (state_of ended) (entries_of ended) (refused_of ended) (sched_of book) lawful opened;
-          handed_over = subst (λ s. past s.setup (entries_of ended)) leads (subst (λ h. past (sched_of ended).setup h) all (subst (λ s. past s history) of_it told));
+          handed_over = subst (λ s. past s.setup (entries_of ended)) leads (subst (λ h. past (sched_of ended).setup h) all (subst (λ s. past s history) of_it stored));
           is_saved = subst (λ s. IsSavedText s after) leads saved;
         }
 

@@ -41,7 +41,7 @@ module _ {S : Type 0} (does : S → Effect → S → Type 0) where
   does_then [] es s t u f g = subst (λ v. HasEffects does es v u) (sym f) g
   does_then (d ∷ ds) es s t u f g = (f.0, f.1, does_then ds es f.0 t u f.2 g)
 
-  -- So many calls have come in, and each was answered.
+  -- This many calls have come in, and each was answered.
   pub record HasAnswered (count : ℕ) (before after : Caller Call Reply) (runs left : List Run) (s t : S) : Type 0 where
     pub entries : List (Entry Call Reply)
     pub many : length entries ≡ count
@@ -115,7 +115,7 @@ module _ {S : Type 0} (does : S → Effect → S → Type 0) where
       subst (KeepsRuns a b runs) (sym h.2) (keeps_pushed a b runs (run_with_limit object number (limit_at h.0 now) ∷ []) seen)
   begun_keeps now other runs left a b s t h seen = subst (KeepsRuns a b runs) (sym h.0) (keeps_same a b runs seen)
 
-  -- a round: the calls that came in, the runs that are given up, the take, and sleep
+  -- a round: the calls that came in, the runs that are abandoned, the take, and sleep
   pub taken_round : (now : ℕ) (answer : Reply) (first runs list left : List Run) (a b c d : Caller Call Reply) (s t u v : S)
       → HasMadeIncomingCalls does a b first runs s t → HasAbandoned now b c runs list → All (λ run. now < run.limit) list
       → HasRecorded (call.Take now) answer c d → HasBegunCheck does now answer list left t u → HasSlept does now answer left u v
@@ -142,7 +142,7 @@ pub abandoned_none : (now : ℕ) (c : Caller Call Reply) (runs : List Run) → H
 abandoned_none now c runs =
     record { entries = []; are_abandonments = All-nil (IsAbandonment now runs); made = made_none c; left_are = left_none runs }
 
--- one run more that is given up
+-- one run more that is abandoned
 pub abandoned_more : (now : ℕ) (run : Run) (reply : Reply) (a b c : Caller Call Reply) (first runs left : List Run)
     → HasAbandoned now a b first runs → Contains runs run → run.limit ≤ now → HasRecorded (call.Abandon run.object run.number now) reply b c
     → left ≡ runs_after_call (call.Abandon run.object run.number now) runs → HasAbandoned now a c first left

@@ -18,7 +18,7 @@ pub record IsTimedRound {S : Type 0} (does : S → Effect → S → Type 0) (bef
   pub read : does s (reads now) clock
   pub round : IsLoopRound does now before after runs left clock t
 
--- so many whole rounds, one after another, and nothing between them
+-- this many whole rounds, one after another, and nothing between them
 abbrev pub AreRounds : {S : Type 0} → (S → Effect → S → Type 0) → ℕ → Caller Call Reply → Caller Call Reply → List Run → List Run → S → S → Type 0
 AreRounds does zero before after runs left s t = (after ≡ before) × (left ≡ runs) × (t ≡ s)
 AreRounds {S} does (suc n) before after runs left s t =
@@ -41,13 +41,13 @@ pub record IsLastRound {S : Type 0} (does : S → Effect → S → Type 0) (endi
   pub read : does s (reads now) clock
   pub ends : EndsRound does ending clock t
 
--- From this caller and these runs on, after so many rounds: all rounds were made, or the generation ended in a further one.
+-- From this caller and these runs on, after this many rounds: all rounds were made, or the generation ended in a further one.
 abbrev pub IsWorkEnd : {S : Type 0} → (S → Effect → S → Type 0) → ℕ → ℕ → End → Caller Call Reply → Caller Call Reply → List Run → List Run → S → S → Type 0
 IsWorkEnd does rounds count ending before after runs left s t =
     ((count ≡ rounds) × (ending ≡ end.Renewal) × (after ≡ before) × (left ≡ runs) × (t ≡ s))
     ⊎ ((count < rounds) × KeepsRuns before.seen after.seen runs left × IsLastRound does ending s t)
 
--- The work of a generation of at most so many rounds.
+-- The work of a generation of at most this many rounds.
 pub record HasWorked {S : Type 0} (does : S → Effect → S → Type 0) (rounds : ℕ) (ending : End) (before after : Caller Call Reply) (runs left : List Run)
     (s t : S) : Type 0 where
   pub count : ℕ

@@ -183,14 +183,14 @@ Consumes-none None = tt
 Consumes-none (Some xs) = refl
 
 -- the part in the buffer was taken after a part without a line feed
-pub took_on : (most : ℕ) (begun part hand rest : List ℕ) (line new : LinePrefix) (whole : Bool) (end : Type 0)
-    → has_feed begun ≡ false → line ≡ prefix_of most begun → hand ≡ part → whole ≡ has_feed hand → rest ≡ rest_after_line hand
-    → ((b : List ℕ) → line ≡ prefix_of line.most b → new ≡ prefix_of line.most (b ++ first_line_of hand)) → (whole ≡ false → end)
+pub took_on : (most : ℕ) (begun part buffered rest : List ℕ) (line new : LinePrefix) (whole : Bool) (end : Type 0)
+    → has_feed begun ≡ false → line ≡ prefix_of most begun → buffered ≡ part → whole ≡ has_feed buffered → rest ≡ rest_after_line buffered
+    → ((b : List ℕ) → line ≡ prefix_of line.most b → new ≡ prefix_of line.most (b ++ first_line_of buffered)) → (whole ≡ false → end)
     → TookLine most (begun ++ part) new rest end whole
-took_on most begun part hand rest line new whole end free kept same w r n e =
+took_on most begun part buffered rest line new whole end free kept same w r n e =
     let m : line.most ≡ most = ap (λ (x : LinePrefix). x.most) kept in
     let now : new ≡ prefix_of most (begun ++ first_line_of part) = n begun (kept ∙ ap (λ i. prefix_of i begun) (sym m))
-    ∙ ap (λ i. prefix_of i (begun ++ first_line_of hand)) m ∙ ap (λ h. prefix_of most (begun ++ first_line_of h)) same in
+    ∙ ap (λ i. prefix_of i (begun ++ first_line_of buffered)) m ∙ ap (λ h. prefix_of most (begun ++ first_line_of h)) same in
     record {
       line_is = now ∙ ap (prefix_of most) (sym (first_on begun part free));
       rest_is = r ∙ ap rest_after_line same ∙ sym (behind_on begun part free);
@@ -199,9 +199,9 @@ took_on most begun part hand rest line new whole end free kept same w r n e =
     }
 
 -- the reader gave nothing more after such a part
-pub took_all : (most : ℕ) (begun part hand : List ℕ) (line : LinePrefix) (end : Type 0) → has_feed begun ≡ false → line ≡ prefix_of most begun
-    → hand ≡ part → hand ≡ [] → end → TookLine most (begun ++ part) line hand end false
-took_all most begun part hand line end free kept same none e =
+pub took_all : (most : ℕ) (begun part buffered : List ℕ) (line : LinePrefix) (end : Type 0) → has_feed begun ≡ false → line ≡ prefix_of most begun
+    → buffered ≡ part → buffered ≡ [] → end → TookLine most (begun ++ part) line buffered end false
+took_all most begun part buffered line end free kept same none e =
     let all : begun ++ part ≡ begun = ap (λ l. begun ++ l) (sym same ∙ none) ∙ append-nil begun in
     record {
       line_is = kept ∙ ap (prefix_of most) (sym (ap first_line_of all ∙ first_all begun free));
@@ -225,65 +225,65 @@ not_yet most bytes rest line end whole t e =
 -- ---- a line that is read in parts
 
 -- A line that is being read. The bytes taken so far have no line feed, and the rest of the bytes read is in the buffer. Each read gave a byte or more.
-pub record Taking (most : ℕ) (hand : List ℕ) (had left : Option (List ℕ)) (line : LinePrefix) (rest : List ℕ) (reads : ℕ) : Type 0 where
+pub record Taking (most : ℕ) (buffered : List ℕ) (had left : Option (List ℕ)) (line : LinePrefix) (rest : List ℕ) (reads : ℕ) : Type 0 where
   pub bytes_read : List ℕ
   pub taken : List ℕ
   pub consumed : Consumes had left bytes_read
-  pub parts : hand ++ bytes_read ≡ taken ++ rest
+  pub parts : buffered ++ bytes_read ≡ taken ++ rest
   pub feedless : has_feed taken ≡ false
   pub kept : line ≡ prefix_of most taken
   pub many : reads ≤ length bytes_read
 
 -- nothing was taken yet
-abbrev pub takes_first : (most : ℕ) (hand : List ℕ) (had : Option (List ℕ)) (line : LinePrefix) → line ≡ prefix_of most []
-    → Taking most hand had had line hand 0
-takes_first most hand had line kept = record {
+abbrev pub takes_first : (most : ℕ) (buffered : List ℕ) (had : Option (List ℕ)) (line : LinePrefix) → line ≡ prefix_of most []
+    → Taking most buffered had had line buffered 0
+takes_first most buffered had line kept = record {
   bytes_read = [];
   taken = [];
   consumed = Consumes-none had;
-  parts = append-nil hand;
+  parts = append-nil buffered;
   feedless = refl;
   kept = kept;
   many = omega arith;
 }
 
 -- one more read gave a byte or more
-pub more_reads : (reads : ℕ) (bytes_read part hand : List ℕ) → reads ≤ length bytes_read → hand ≡ part → 0 < length hand → reads + 1 ≤ length (bytes_read ++ part)
-more_reads reads bytes_read part hand many same some =
+pub more_reads : (reads : ℕ) (bytes_read part buffered : List ℕ) → reads ≤ length bytes_read → buffered ≡ part → 0 < length buffered → reads + 1 ≤ length (bytes_read ++ part)
+more_reads reads bytes_read part buffered many same some =
     let all = length-append bytes_read part in
     let sizes = ap length same in
     omega (arith, all, sizes, many, some)
 
-module _ {most reads : ℕ} {hand rest : List ℕ} {had mid : Option (List ℕ)} {line : LinePrefix} (s : Taking most hand had mid line rest reads)
+module _ {most reads : ℕ} {buffered rest : List ℕ} {had mid : Option (List ℕ)} {line : LinePrefix} (s : Taking most buffered had mid line rest reads)
     (behind : List ℕ) (new : LinePrefix) where
   -- the bytes of the buffer before a line feed are taken
   pub took_first : (whole : Bool) (end : Type 0) → whole ≡ has_feed rest → behind ≡ rest_after_line rest
       → ((b : List ℕ) → line ≡ prefix_of line.most b → new ≡ prefix_of line.most (b ++ first_line_of rest)) → (whole ≡ false → end)
-      → TookLine most (hand ++ s.bytes_read) new behind end whole
+      → TookLine most (buffered ++ s.bytes_read) new behind end whole
   took_first whole end w r n e =
       subst (λ l. TookLine most l new behind end whole) (sym s.parts) (took_on most s.taken rest rest behind line new whole end s.feedless s.kept refl w r n e)
 
   -- the same if the buffer had no line feed
   pub took_begun : (whole : Bool) → whole ≡ has_feed rest → behind ≡ rest_after_line rest
       → ((b : List ℕ) → line ≡ prefix_of line.most b → new ≡ prefix_of line.most (b ++ first_line_of rest)) → whole ≡ false
-      → Begun most (hand ++ s.bytes_read) new behind
-  took_begun whole w r n none = not_yet most (hand ++ s.bytes_read) behind new (Unit {0}) whole (took_first whole (Unit {0}) w r n (λ _. tt)) none
+      → Begun most (buffered ++ s.bytes_read) new behind
+  took_begun whole w r n none = not_yet most (buffered ++ s.bytes_read) behind new (Unit {0}) whole (took_first whole (Unit {0}) w r n (λ _. tt)) none
 
   -- the reader was asked, and gave nothing
-  pub took_last : (part now : List ℕ) (end : Type 0) → Begun most (hand ++ s.bytes_read) new behind → now ≡ part → now ≡ [] → end
-      → TookLine most (hand ++ (s.bytes_read ++ part)) new now end false
+  pub took_last : (part now : List ℕ) (end : Type 0) → Begun most (buffered ++ s.bytes_read) new behind → now ≡ part → now ≡ [] → end
+      → TookLine most (buffered ++ (s.bytes_read ++ part)) new now end false
   took_last part now end begun same none e =
-      subst (λ l. TookLine most l new now end false) (append_assoc hand s.bytes_read part)
-      (took_all most (hand ++ s.bytes_read) part now new end begun.feedless begun.kept same none e)
+      subst (λ l. TookLine most l new now end false) (append_assoc buffered s.bytes_read part)
+      (took_all most (buffered ++ s.bytes_read) part now new end begun.feedless begun.kept same none e)
 
   -- it gave some
-  abbrev pub takes_more : (left : Option (List ℕ)) (part now : List ℕ) → Begun most (hand ++ s.bytes_read) new behind → Consumes mid left part
-      → now ≡ part → 0 < length now → Taking most hand had left new now (reads + 1)
+  abbrev pub takes_more : (left : Option (List ℕ)) (part now : List ℕ) → Begun most (buffered ++ s.bytes_read) new behind → Consumes mid left part
+      → now ≡ part → 0 < length now → Taking most buffered had left new now (reads + 1)
   takes_more left part now begun read same some = record {
     bytes_read = s.bytes_read ++ part;
-    taken = hand ++ s.bytes_read;
+    taken = buffered ++ s.bytes_read;
     consumed = Consumes-then had mid left s.bytes_read part s.consumed read;
-    parts = sym (append_assoc hand s.bytes_read part) ∙ ap (λ l. (hand ++ s.bytes_read) ++ l) (sym same);
+    parts = sym (append_assoc buffered s.bytes_read part) ∙ ap (λ l. (buffered ++ s.bytes_read) ++ l) (sym same);
     feedless = begun.feedless;
     kept = begun.kept;
     many = more_reads reads s.bytes_read part now s.many same some;
@@ -292,14 +292,14 @@ module _ {most reads : ℕ} {hand rest : List ℕ} {had mid : Option (List ℕ)}
 -- ---- a document's line
 
 -- The line of a document that is being read: fewer bytes were taken than are kept at most, and the rest is at most one read.
-pub record Coming (most : ℕ) (hand : List ℕ) (had left : Option (List ℕ)) (line : LinePrefix) (rest : List ℕ) (reads : ℕ) : Type 0 where
-  pub taking : Taking most hand had left line rest reads
+pub record Coming (most : ℕ) (buffered : List ℕ) (had left : Option (List ℕ)) (line : LinePrefix) (rest : List ℕ) (reads : ℕ) : Type 0 where
+  pub taking : Taking most buffered had left line rest reads
   pub bounded : length taking.taken < most
   pub size : length rest ≤ READ_BYTES
 
-pub comes_first : (most : ℕ) (hand : List ℕ) (had : Option (List ℕ)) (line : LinePrefix) → line ≡ prefix_of most [] → 0 < most
-    → length hand ≤ READ_BYTES → Coming most hand had had line hand 0
-comes_first most hand had line kept some size = record { taking = takes_first most hand had line kept; bounded = some; size = size }
+pub comes_first : (most : ℕ) (buffered : List ℕ) (had : Option (List ℕ)) (line : LinePrefix) → line ≡ prefix_of most [] → 0 < most
+    → length buffered ≤ READ_BYTES → Coming most buffered had had line buffered 0
+comes_first most buffered had line kept some size = record { taking = takes_first most buffered had line kept; bounded = some; size = size }
 
 pub stops_soon : (most : ℕ) (bytes_read part : List ℕ) → has_feed bytes_read ≡ false → length bytes_read < most → length part ≤ READ_BYTES
     → IsBoundedReading most (bytes_read ++ part)
@@ -310,10 +310,10 @@ stops_soon most bytes_read part free bounded h =
     record { at_the_bound = omega (arith, whole, bounded, h); at_the_feed = omega (arith, whole, front, first, h) }
 
 -- the bytes read in all, if the reader isn't asked again
-pub given_so : {most reads : ℕ} {hand rest : List ℕ} {had left : Option (List ℕ)} {line : LinePrefix} (s : Coming most hand had left line rest reads)
+pub given_so : {most reads : ℕ} {buffered rest : List ℕ} {had left : Option (List ℕ)} {line : LinePrefix} (s : Coming most buffered had left line rest reads)
     (reading after : List ℕ → Type 0) → reading s.taking.bytes_read → after s.taking.bytes_read
-    → (bytes_read : List ℕ) × Consumes had left bytes_read × reading bytes_read × IsBoundedReading most (hand ++ bytes_read) × after bytes_read
-given_so {most} {reads} {hand} {rest} s reading after t a =
+    → (bytes_read : List ℕ) × Consumes had left bytes_read × reading bytes_read × IsBoundedReading most (buffered ++ bytes_read) × after bytes_read
+given_so {most} {reads} {buffered} {rest} s reading after t a =
     (s.taking.bytes_read, s.taking.consumed, t, subst (IsBoundedReading most) (sym s.taking.parts) (stops_soon most s.taking.taken rest s.taking.feedless s.bounded s.size), a)
 
 -- after the line there is at most one read
@@ -346,28 +346,28 @@ not_full most bytes line k e =
     grind (arith, nat_tests, e', l)
 
 -- the bytes read in all, if the buffer was taken and the reader was asked again
-pub asked_so : {most reads : ℕ} {hand rest : List ℕ} {had mid : Option (List ℕ)} {line : LinePrefix} (s : Coming most hand had mid line rest reads)
+pub asked_so : {most reads : ℕ} {buffered rest : List ℕ} {had mid : Option (List ℕ)} {line : LinePrefix} (s : Coming most buffered had mid line rest reads)
     (behind : List ℕ) (new : LinePrefix) (left : Option (List ℕ)) (part : List ℕ) (reading after : List ℕ → Type 0)
-    → Begun most (hand ++ s.taking.bytes_read) new behind → (length new.bytes == new.most) ≡ false → Consumes mid left part → length part ≤ READ_BYTES
+    → Begun most (buffered ++ s.taking.bytes_read) new behind → (length new.bytes == new.most) ≡ false → Consumes mid left part → length part ≤ READ_BYTES
     → reading (s.taking.bytes_read ++ part) → after (s.taking.bytes_read ++ part)
-    → (bytes_read : List ℕ) × Consumes had left bytes_read × reading bytes_read × IsBoundedReading most (hand ++ bytes_read) × after bytes_read
-asked_so {most} {reads} {hand} {rest} {had} {mid} s behind new left part reading after begun short now size t a =
-    let bounded = not_full most (hand ++ s.taking.bytes_read) new begun.kept short in (
+    → (bytes_read : List ℕ) × Consumes had left bytes_read × reading bytes_read × IsBoundedReading most (buffered ++ bytes_read) × after bytes_read
+asked_so {most} {reads} {buffered} {rest} {had} {mid} s behind new left part reading after begun short now size t a =
+    let bounded = not_full most (buffered ++ s.taking.bytes_read) new begun.kept short in (
       s.taking.bytes_read ++ part,
       Consumes-then had mid left s.taking.bytes_read part s.taking.consumed now,
       t,
-      subst (IsBoundedReading most) (append_assoc hand s.taking.bytes_read part) (stops_soon most (hand ++ s.taking.bytes_read) part begun.feedless bounded size),
+      subst (IsBoundedReading most) (append_assoc buffered s.taking.bytes_read part) (stops_soon most (buffered ++ s.taking.bytes_read) part begun.feedless bounded size),
       a,
     )
 
 -- it gave some
-pub comes_more : {most reads : ℕ} {hand rest : List ℕ} {had mid : Option (List ℕ)} {line : LinePrefix} (s : Coming most hand had mid line rest reads)
-    (behind : List ℕ) (new : LinePrefix) (left : Option (List ℕ)) (part now_hand : List ℕ) → Begun most (hand ++ s.taking.bytes_read) new behind
-    → (length new.bytes == new.most) ≡ false → Consumes mid left part → length part ≤ READ_BYTES → now_hand ≡ part → 0 < length now_hand
-    → Coming most hand had left new now_hand (reads + 1)
-comes_more {most} {reads} {hand} {rest} {had} {mid} s behind new left part now_hand begun short now size same some = record {
-  taking = takes_more s.taking behind new left part now_hand begun now same some;
-  bounded = not_full most (hand ++ s.taking.bytes_read) new begun.kept short;
+pub comes_more : {most reads : ℕ} {buffered rest : List ℕ} {had mid : Option (List ℕ)} {line : LinePrefix} (s : Coming most buffered had mid line rest reads)
+    (behind : List ℕ) (new : LinePrefix) (left : Option (List ℕ)) (part now_buffered : List ℕ) → Begun most (buffered ++ s.taking.bytes_read) new behind
+    → (length new.bytes == new.most) ≡ false → Consumes mid left part → length part ≤ READ_BYTES → now_buffered ≡ part → 0 < length now_buffered
+    → Coming most buffered had left new now_buffered (reads + 1)
+comes_more {most} {reads} {buffered} {rest} {had} {mid} s behind new left part now_buffered begun short now size same some = record {
+  taking = takes_more s.taking behind new left part now_buffered begun now same some;
+  bounded = not_full most (buffered ++ s.taking.bytes_read) new begun.kept short;
   size = (let sizes = ap length same in omega (arith, sizes, size));
 }
 
@@ -376,8 +376,8 @@ front_free : (xs bs : List ℕ) → has_feed (xs ++ bs) ≡ false → has_feed x
 front_free [] bs h = refl
 front_free (a ∷ xs) bs h = by_feed (a == 10) (has_feed (xs ++ bs)) h (λ e k. rw e (front_free xs bs k))
 
-pub never_asked : {P : Type 0} (most : ℕ) (hand bytes_read rest : List ℕ) (line : LinePrefix) → Begun most (hand ++ bytes_read) line rest → has_feed hand ≡ true → P
-never_asked most hand bytes_read rest line begun feed = let both : true ≡ false = sym feed ∙ front_free hand bytes_read begun.feedless in cc
+pub never_asked : {P : Type 0} (most : ℕ) (buffered bytes_read rest : List ℕ) (line : LinePrefix) → Begun most (buffered ++ bytes_read) line rest → has_feed buffered ≡ true → P
+never_asked most buffered bytes_read rest line begun feed = let both : true ≡ false = sym feed ∙ front_free buffered bytes_read begun.feedless in cc
 
 -- ---- errors
 

@@ -42,7 +42,7 @@ begun s n bytes = record { state = s; number = n; rest = bytes }
 
 -- ---- an input that a run accepts
 
--- the commands go on with what a line says
+-- the commands continue with what a line says
 abbrev onto : {K : Type 0} → Result (Option K) InputRefusal → Result (List K) InputRefusal → Result (List K) InputRefusal
 onto (Ok None) rest = rest
 onto (Ok (Some x)) rest = rest >>= λ more. Ok (x ∷ more)
@@ -153,7 +153,7 @@ start_replaced moment input other setup saved script there w v e f same =
 
 -- ---- what comes later
 
--- some line, and others behind it
+-- some line, and others after it
 some_lines : (bs : List ℕ) → (line : List ℕ) × (lines : List (List ℕ)) × (lines_of (bs ++ 10 ∷ []) ≡ line ∷ lines)
 some_lines [] = ([], [], refl)
 some_lines (b ∷ bs) = (_, _, lines_apart b (bs ++ 10 ∷ []))
@@ -172,7 +172,7 @@ lines_of-whole (b ∷ bs) back =
       | false ↦ ap (onto_first b) again ∙ onto_more b (lines_of (bs ++ 10 ∷ [])) (lines_of back) some.0 some.1 some.2
     ]
 
--- what stands behind line 1 of whole lines is whole lines, or nothing
+-- what comes after line 1 of whole lines is whole lines, or nothing
 pub behind_whole : (front : List ℕ) → AreWholeLines (rest_after_line (front ++ 10 ∷ []))
 behind_whole [] = inl refl
 behind_whole (b ∷ bs) =
@@ -200,7 +200,7 @@ answers_apart form s n (x ∷ xs) ys =
     let first = line_answer form s n x r in
     (again.0, ap (λ l. first ++ l) again.1 ∙ sym (append_assoc first _ again.0))
 
--- a beginning with more bytes behind it
+-- a beginning with more bytes after it
 abbrev more : List ℕ → Result Beginning InputRefusal → Result Beginning InputRefusal
 more back (Ok b) = Ok (record b { rest = b.rest ++ back })
 more back (Err e) = Err e
@@ -242,7 +242,7 @@ first_apart : (bytes : List ℕ) → has_feed bytes ≡ true → length (lines_o
 first_apart [] feed = cc
 first_apart (b ∷ bs) feed = ap length (lines_apart b bs)
 
--- What is left behind whole lines: whole lines, the first of which has the beginning's number.
+-- What is left after whole lines: whole lines, the first of which has the beginning's number.
 record IsLeft (b : Beginning) (lines : ℕ) : Type 0 where
   whole : AreWholeLines b.rest
   count : b.number + length (lines_of b.rest) ≡ lines
@@ -334,7 +334,7 @@ passes_in form (x ∷ xs) s n line ys why e =
     let again = passes_in form xs (state_after_line s r) (n + 1) line ys why (ap (λ c. line_meaning form c (n + 1 + length xs) line) kept ∙ there) in
     (first ++ again.0, again.1, ap (λ l. first ++ l) again.2 ∙ sym (append_assoc first again.0 _), ap (λ l. first ++ l) again.3 ∙ sym (append_assoc first again.0 again.1))
 
--- a line without a line feed, and those behind it
+-- a line without a line feed, and those after it
 pub line_first : (line back : List ℕ) → has_feed line ≡ false → lines_of (line ++ 10 ∷ back) ≡ line ∷ lines_of back
 line_first [] back h = refl
 line_first (b ∷ bs) back h =

@@ -20,7 +20,7 @@ use Rattle.nagsched_protocol.specs.Notes.{IsNote, note_of}
 use Rattle.nagsched_protocol.specs.Script.{line_at, refused_bytes}
 use Rattle.nagsched_protocol.specs.Streams.{outcome_by}
 use Rattle.nagsched_protocol.specs.Written.{IsLineWritten, IsTextWritten}
-use Rattle.nagsched_protocol.proofs.ReadLemmas.{IsOfRead, too_long_tells}
+use Rattle.nagsched_protocol.proofs.ReadLemmas.{IsOfRead, read_part_agrees}
 use Rattle.nagsched_protocol.proofs.WrittenLemmas.{Keeps-same, text_line}
 
 -- ---- what is read of an input notes all
@@ -32,7 +32,7 @@ no_line (line ∷ lines) = refl
 -- the note of an input is that of as much of it as is read, if every input that is too long is refused for that
 pub note_of_read : {A : Type 0} (says : List ℕ → Result A InputRefusal)
     → ((bytes : List ℕ) → MAX_INPUT_BYTES < length bytes → says bytes ≡ Err (refusals.Line line_fault.TooLong 0)) → IsOfRead (λ input. note_of input (says input))
-note_of_read says long = too_long_tells (λ input. note_of input (says input)) (sentence [] (refusals.Line line_fault.TooLong 0)) (λ bytes h.
+note_of_read says long = read_part_agrees (λ input. note_of input (says input)) (sentence [] (refusals.Line line_fault.TooLong 0)) (λ bytes h.
     ap (note_of bytes) (long bytes h) ∙ ap (λ line. sentence line (refusals.Line line_fault.TooLong 0)) (no_line (lines_of bytes)))
 
 -- ---- a refused input

@@ -6,7 +6,7 @@ use Rattle.std.specs.Io.KnownBytes.{Appends, Keeps}
 use Rattle.std.proofs.lemmas.Grind.{common_steps}
 use Rattle.nagsched_protocol.specs.Output.{AreWholeLines, EndsLine, WroteFront, WroteLinesUpTo, WroteShort, WroteUpTo}
 
--- a text with something in it, with more behind it or before it
+-- a text with something in it, with more after it or before it
 pub some_append : (xs ys : List ℕ) → xs ≢ [] → xs ++ ys ≢ []
 some_append [] ys some e = some refl
 some_append (x ∷ xs) ys some e = cc
@@ -15,12 +15,12 @@ append_some : (xs ys : List ℕ) → ys ≢ [] → xs ++ ys ≢ []
 append_some [] ys some e = some e
 append_some (x ∷ xs) ys some e = cc
 
--- what ends a line has something in it, and so has what goes on with it
+-- what ends a line has something in it, and so has what continues with it
 pub line_goes_on : (line rest left : List ℕ) → left ≡ line ++ rest → EndsLine line → left ≢ []
 line_goes_on line rest left next (xs, e) none =
     some_append line rest (λ f. append_some xs (10 ∷ []) (λ g. cc) (sym e ∙ f)) (sym next ∙ none)
 
--- behind whole lines come whole lines
+-- after whole lines come whole lines
 pub whole_on : (a b : List ℕ) → AreWholeLines a → AreWholeLines b → AreWholeLines (a ++ b)
 whole_on a b w (inl none) = subst AreWholeLines (sym (ap (λ l. a ++ l) none ∙ append-nil a)) w
 whole_on a b w (inr (xs, e)) = inr (a ++ xs, ap (λ l. a ++ l) e ∙ sym (append_assoc a xs (10 ∷ [])))

@@ -23,37 +23,37 @@ use Rattle.nagsched_protocol.specs.Streams.{HasRead, IsInput}
 
 -- ---- one byte more than an input may have is enough to refuse it
 
--- what says the same of all that is longer than `most` says of a longer prefix what it says of the whole
-front_tells_by : {A : Type 0} (says : List ℕ → A) (most kept : ℕ) (long : A) → most < kept
+-- A function with one value for all that is longer than `most` has the same value for a longer prefix as for the whole.
+prefix_agrees_by : {A : Type 0} (says : List ℕ → A) (most kept : ℕ) (long : A) → most < kept
     → ((bytes : List ℕ) → most < length bytes → says bytes ≡ long)
     → (bytes : List ℕ) → (most < length bytes) ⊎ (length bytes ≤ most) → says (take kept bytes) ≡ says bytes
-front_tells_by says most kept long more same bytes (inl h) =
+prefix_agrees_by says most kept long more same bytes (inl h) =
     let l = length-take kept bytes in same (take kept bytes) (omega (arith, more, h, l)) ∙ sym (same bytes h)
-front_tells_by says most kept long more same bytes (inr h) = ap says (take_all kept bytes (omega (arith, more, h)))
+prefix_agrees_by says most kept long more same bytes (inr h) = ap says (take_all kept bytes (omega (arith, more, h)))
 
-pub front_tells : {A : Type 0} (says : List ℕ → A) (most kept : ℕ) (long : A) → most < kept
+pub prefix_agrees : {A : Type 0} (says : List ℕ → A) (most kept : ℕ) (long : A) → most < kept
     → ((bytes : List ℕ) → most < length bytes → says bytes ≡ long)
     → (bytes : List ℕ) → says (take kept bytes) ≡ says bytes
-front_tells says most kept long more same bytes = front_tells_by says most kept long more same bytes (cases_lt most (length bytes))
+prefix_agrees says most kept long more same bytes = prefix_agrees_by says most kept long more same bytes (cases_lt most (length bytes))
 
--- what is said of an input is said of as much of it as is read
+-- the function has the same value for an input as for the part of it that is read
 abbrev pub IsOfRead : {A : Type 0} → (List ℕ → A) → Type 0
 IsOfRead says = (bytes : List ℕ) → says (take MAX_READ_BYTES bytes) ≡ says bytes
 
-pub too_long_tells : {A : Type 0} (says : List ℕ → A) (long : A) → ((bytes : List ℕ) → MAX_INPUT_BYTES < length bytes → says bytes ≡ long) → IsOfRead says
-too_long_tells says long same = front_tells says MAX_INPUT_BYTES MAX_READ_BYTES long (omega arith) same
+pub read_part_agrees : {A : Type 0} (says : List ℕ → A) (long : A) → ((bytes : List ℕ) → MAX_INPUT_BYTES < length bytes → says bytes ≡ long) → IsOfRead says
+read_part_agrees says long same = prefix_agrees says MAX_INPUT_BYTES MAX_READ_BYTES long (omega arith) same
 
 pub is_too_long : (bytes : List ℕ) → MAX_INPUT_BYTES < length bytes → nat_lt MAX_INPUT_BYTES (length bytes) ≡ true
 is_too_long bytes h = grind (arith, nat_tests, h)
 
 -- an input that is too long
-pub limit_tells : {A : Type 0} (says : List ℕ → Result A InputRefusal) (bytes : List ℕ) → MAX_INPUT_BYTES < length bytes
+pub refused_past_limit : {A : Type 0} (says : List ℕ → Result A InputRefusal) (bytes : List ℕ) → MAX_INPUT_BYTES < length bytes
     → if_within_limit bytes (says bytes) ≡ Err (refusals.Line line_fault.TooLong 0)
-limit_tells says bytes h = rw (is_too_long bytes h) refl
+refused_past_limit says bytes h = rw (is_too_long bytes h) refl
 
 pub drill_script_take : IsOfRead drill_script_of
 unfolding drill_script_of
-drill_script_take = too_long_tells drill_script_of (Err (refusals.Line line_fault.TooLong 0)) (limit_tells _)
+drill_script_take = read_part_agrees drill_script_of (Err (refusals.Line line_fault.TooLong 0)) (refused_past_limit _)
 
 -- ---- the input of a run, whatever is known of its reader
 

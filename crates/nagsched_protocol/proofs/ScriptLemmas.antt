@@ -57,7 +57,7 @@ front_and_first : {K : Type 0} (front : List K) (first : K) (more : Result (List
 front_and_first front first (Ok rest) = ap Ok (sym (append_assoc front (first ∷ []) rest))
 front_and_first front first (Err e) = refl
 
--- a line's command stands behind those before it
+-- a line's command comes after those before it
 pub command_read : {K : Type 0} (meaning : List ℕ → Items → Result K LineFault) (n : ℕ) (all : Result (List K) InputRefusal) (front : List K)
     (lines : List (List ℕ)) (line : List ℕ) (rest : List (List ℕ)) (first : K)
     → all ≡ with_front front (commands_from meaning n lines) → lines ≡ line ∷ rest → is_blank line ≡ false → command_of meaning n line ≡ Ok first
@@ -121,7 +121,7 @@ few_commands meaning n [] = omega arith
 few_commands meaning n (l ∷ ls) =
     few_by (is_blank l) (command_of meaning n l) (commands_from meaning (n + 1) ls) (length ls) (few_commands meaning (n + 1) ls)
 
--- no more commands behind line 1 than bytes
+-- no more commands after line 1 than bytes
 pub few_behind : {K : Type 0} (meaning : List ℕ → Items → Result K LineFault) (n : ℕ) (bytes : List ℕ) (all : List K)
     → commands_of_lines n meaning (lines_of bytes) ≡ Ok all → length all ≤ length bytes
 few_behind meaning n bytes all e =

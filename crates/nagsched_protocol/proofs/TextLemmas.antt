@@ -1,5 +1,6 @@
 -- The text of a run, call by call, and of a history, entry by entry.
-use Rattle.std.proofs.Common.{Option, Some, None, ◌≡◌, ℕ, suc, zero, List, [], ◌∷◌, ◌++◌, refl, ap, ◌∙◌, append_assoc, append-nil, sym, arith, drop, length, ◌+◌, ◌≤◌, ◌<◌, get_or}
+use Rattle.std.proofs.Common.{Option, Some, None, ◌≡◌, ℕ, suc, zero, List, [], ◌∷◌, ◌++◌, refl, ap, ◌∙◌, append_assoc, append-nil, sym, arith, drop, length}
+use Rattle.std.proofs.Common.{◌+◌, ◌≤◌, ◌<◌, get_or}
 use Rattle.std.specs.Prelude.{codes, decimal, flat_map}
 use Rattle.check_saved_state.specs.Text.{saved_text}
 use Rattle.check_sched.specs.Saved.{saved_of}
@@ -19,7 +20,8 @@ use Rattle.check_sched.specs.declared.call.Reply.{Reply}
 use Rattle.nagsched_protocol.specs.Output.{EndsLine}
 use Rattle.check_objects.specs.Configuration.{name_of, object_count}
 use Rattle.check_sched.specs.State.{next_of, run_number_of, standing_at}
-use Rattle.nagsched_protocol.specs.Text.{refusal_line, answer_line, text_from, entry_line, line_of, list_lines, listed_line, listed_text, reply_text, saved_line}
+use Rattle.nagsched_protocol.specs.Text.{refusal_line, answer_line, text_from, entry_line, line_of, list_lines, listed_line, listed_text, reply_text}
+use Rattle.nagsched_protocol.specs.Text.{saved_line}
 use Rattle.nagsched_protocol.specs.Text.{input_refusal_text, refused_text, state_after_command, total_line, total_text}
 use Rattle.nagsched_protocol.specs.declared.answer_form.AnswerForm.{AnswerForm}
 use Rattle.nagsched_protocol.specs.declared.answer_form.AnswerForm.TheVariants as forms
@@ -37,7 +39,7 @@ command_keeps s (command.Call call) = (step_keeps s call).setup
 command_keeps s command.Save = refl
 command_keeps s command.List = refl
 
--- the text goes on with the line of the next command's answer
+-- the text continues with the line of the next command's answer
 pub text_next : (s : State) (cs : List RunCommand) (i : ℕ) (d : RunCommand) → i < length cs
     → text_from s (drop i cs) ≡ answer_line s (get_or cs i d) ++ text_from (state_after_command s (get_or cs i d)) (drop (i + 1) cs)
 text_next s cs i d h =
@@ -48,14 +50,14 @@ text_next s cs i d h =
 pub text_end : (s : State) (cs : List RunCommand) (i : ℕ) → length cs ≤ i → text_from s (drop i cs) ≡ []
 text_end s cs i h = rw (drop_all i cs h) refl
 
--- the lines of a history go on with the next entry's
+-- the lines of a history continue with the next entry's
 pub entries_next : (c : Configuration) (es : List (Entry Call Reply)) (i : ℕ) (d : Entry Call Reply) (total : List ℕ) → i < length es
     → flat_map (entry_line c) (drop i es) ++ total ≡ entry_line c (get_or es i d) ++ (flat_map (entry_line c) (drop (i + 1) es) ++ total)
 entries_next c es i d total h =
     let e : drop i es ≡ get_or es i d ∷ drop (i + 1) es = grind (arith, common_steps) in
     ap (λ l. flat_map (entry_line c) l ++ total) e ∙ append_assoc (entry_line c (get_or es i d)) (flat_map (entry_line c) (drop (i + 1) es)) total
 
--- after the last entry only the total is left, with nothing behind it
+-- after the last entry only the total is left, with nothing after it
 pub entries_end : (c : Configuration) (es : List (Entry Call Reply)) (i : ℕ) (total : List ℕ) → length es ≤ i
     → flat_map (entry_line c) (drop i es) ++ total ≡ total ++ []
 entries_end c es i total h = ap (λ l. flat_map (entry_line c) l ++ total) (drop_all i es h) ∙ sym (append-nil total)
@@ -66,7 +68,7 @@ range_more : (n : ℕ) → range_with_len 0 (n + 1) ≡ range_with_len 0 n ++ n 
 range_more n =
     sym (map-id (range_with_len 0 (n + 1))) ∙ map-range_with_len_more (λ k. k) 0 n n (omega arith) ∙ ap (λ l. l ++ n ∷ []) (map-id (range_with_len 0 n))
 
--- the lines go on with the next object's
+-- the lines continue with the next object's
 pub listed_more : {A : Type 0} (f : ℕ → List A) (n : ℕ) (head was more : List A) → more ≡ was ++ f n → was ≡ head ++ flat_map f (range_with_len 0 n)
     → more ≡ head ++ flat_map f (range_with_len 0 (n + 1))
 listed_more f n head was more pushed before =

@@ -123,7 +123,7 @@ abbrev pub last_good : Option Token → List Token → Option Token
 last_good before [] = before
 last_good before (t ∷ ts) = if is_bad t then before else last_good (Some t) ts
 
--- behind this token
+-- after this token
 abbrev pub place_text : Option Token → List ℕ
 place_text None = codes "at its beginning"
 place_text (Some t) = codes "after " ++ token_text t

@@ -1,5 +1,6 @@
 -- A request: a command, and the id that its answer repeats. The id is the last item of the line, an object whose only member is `id`.
-use Rattle.std.specs.Prelude.{ℕ, Bool, true, false, List, length, Option, Some, None, Result, Ok, codes, is_some, nat_lt, option_and_then, option_map, if◌then◌else◌}
+use Rattle.std.specs.Prelude.{ℕ, Bool, true, false, List, length, Option, Some, None, Result, Ok, codes, is_some, nat_lt, option_and_then, option_map}
+use Rattle.std.specs.Prelude.{if◌then◌else◌}
 use Rattle.serde_json.specs.Data.{Data, number, string, unsigned, Items, no_items, item, object, no_members, member}
 use Rattle.serde_json.specs.Find.{as_array, get}
 use Rattle.check_objects.specs.JsonTree.{tree_of}

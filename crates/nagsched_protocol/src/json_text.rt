@@ -6,10 +6,12 @@ ghost use Rattle.json.specs.Token.{begin_object, end_object, end_array, key, str
 ghost use Rattle.json.specs.Print.{print};
 ghost use Rattle.check_objects.specs.Configuration.{object_count};
 ghost use Rattle.std.specs.List.{after_first, before_first};
-ghost use Rattle.nagsched_protocol.specs.JsonText.{Puts, answer_members, first_tokens, id_tokens, index_fields, is_space, json_answer_line, json_list_line, listed_tokens};
+ghost use Rattle.nagsched_protocol.specs.JsonText.{Puts, answer_members, first_tokens, id_tokens, index_fields, is_space, json_answer_line, json_list_line};
+ghost use Rattle.nagsched_protocol.specs.JsonText.{listed_tokens};
 ghost use Rattle.nagsched_protocol.specs.JsonText.{json_refusal_line, json_saved_line, members_of, object_tokens, place_fields, refusal_fields};
 ghost use Rattle.nagsched_protocol.specs.JsonText.{refused_line, time_token};
-ghost use Rattle.nagsched_protocol.specs.Text.{answer_of, attempt_field, kind_field, line_of, listed_answer, name_field, next_field, refusal_field, state_field};
+ghost use Rattle.nagsched_protocol.specs.Text.{answer_of, attempt_field, kind_field, line_of, listed_answer, name_field, next_field, refusal_field};
+ghost use Rattle.nagsched_protocol.specs.Text.{state_field};
 ghost use Rattle.nagsched_protocol.specs.CallExplanation.{explained_answer, sentence_fields};
 ghost use Rattle.nagsched_protocol.specs.Requested.{head_id, id_view};
 

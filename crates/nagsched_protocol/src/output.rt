@@ -1,7 +1,8 @@
 //! Gives bytes to a writer: a text, the line of a refusal or of a saved state, the lines of all objects,
 //! and the flush at the end. The modules `text`, `refusal_text`, `listing` and `json_text` make the lines.
 
-ghost use Rattle.std.specs.Prelude.{◌≡◌, ◌≤◌, ◌+◌, ◌++◌, IfErr, IfOk, IfSome, IsErrAnd, IsOkUnless, None, OnErr, OnOk, string_bytes, string_capacity, string_len};
+ghost use Rattle.std.specs.Prelude.{◌≡◌, ◌≤◌, ◌+◌, ◌++◌, IfErr, IfOk, IfSome, IsErrAnd, IsOkUnless, None, OnErr, OnOk, string_bytes, string_capacity};
+ghost use Rattle.std.specs.Prelude.{string_len};
 ghost use Rattle.std.specs.Io.KnownBytes.{Appends, Keeps};
 ghost use Rattle.nagsched_protocol.specs.Agreement.{refusal};
 ghost use Rattle.nagsched_protocol.specs.Output.{WroteFront};

@@ -1,4 +1,4 @@
--- What stands behind the setup of a conversation, whatever its scheduler begins with, and the whole of it.
+-- What comes after the setup of a conversation, whatever its scheduler begins with, and the whole of it.
 use Rattle.std.proofs.Common.{◌≡◌, ℕ, suc, ◌-◌, ◌^◌, ◌==◌, ◌<◌, ◌≤◌, Bool, true, false, cond, List, [], ◌∷◌, ◌++◌, length, take, Option, Result, Ok}
 use Rattle.std.proofs.Common.{Err, refl, sym, ap, ◌∙◌}
 use Rattle.std.proofs.Common.{arith, inl, inr, ◌⊎◌, append_assoc, append-nil, length-append, subst}
@@ -42,7 +42,7 @@ use Rattle.nagsched_protocol.specs.Streams.{IsInput, outcome_by}
 use Rattle.nagsched_protocol.specs.Streams.{streams}
 use Rattle.nagsched_run.specs.Live.{IsSpentAfterInput, IsSpentAfterSetup, IsSpentAfterLines, ConversationEnded, HasHadAtLeast, HasReadLive, LeavesText, ReadBy}
 use Rattle.nagsched_run.specs.Live.{ReadOver, AnsweringEnded, HasTakenDocument, IsContinuation, saved_at_start}
-use Rattle.nagsched_protocol.proofs.ReadLemmas.{front_tells}
+use Rattle.nagsched_protocol.proofs.ReadLemmas.{prefix_agrees}
 use Rattle.nagsched_protocol.proofs.WrittenLemmas.{Keeps-same}
 use Rattle.nagsched_run.proofs.LiveLemmas.{end_input, input_all, input_on, leaves_kept, live_failed}
 use Rattle.nagsched_run.proofs.LiveLemmas.{not_long, refused_stays, rest_input, rest_of, setup_is, setup_refused, written_errs, written_ifs, written_oks}
@@ -53,16 +53,16 @@ saved_too_long : (line : List ℕ) → 16777216 < length line → saved_of_text 
 saved_too_long line h = let a : nat_lt 16777216 (length line) ≡ true = grind (arith, nat_tests, h) in rw a refl
 
 pub kept_saved : (line : List ℕ) → saved_of_text (take SAVED_PREFIX_BYTES line) ≡ saved_of_text line
-kept_saved line = front_tells saved_of_text 16777216 SAVED_PREFIX_BYTES (Err faults.TooLong) (omega arith) saved_too_long line
+kept_saved line = prefix_agrees saved_of_text 16777216 SAVED_PREFIX_BYTES (Err faults.TooLong) (omega arith) saved_too_long line
 
 -- nothing follows the setup: line 2 has no byte
-pub unfollowed : (hand : List ℕ) (r : Result Saved ScriptError) (left : Option (List ℕ)) → hand ≡ [] → IsAtEnd left
+pub unfollowed : (buffered : List ℕ) (r : Result Saved ScriptError) (left : Option (List ℕ)) → buffered ≡ [] → IsAtEnd left
     → IsExpectedResult (λ saved. saved) r (with_saved_refusal (saved_of_text []))
-    → IsExpectedResult (λ saved. saved) r (saved_at_start (hand ++ [])) × HasTakenDocument SAVED_PREFIX_BYTES (hand ++ []) false hand left
-unfollowed hand r left e end g = rw e (g, record { follows = refl; buffer_is = refl; ended = λ f. inl end })
+    → IsExpectedResult (λ saved. saved) r (saved_at_start (buffered ++ [])) × HasTakenDocument SAVED_PREFIX_BYTES (buffered ++ []) false buffered left
+unfollowed buffered r left e end g = rw e (g, record { follows = refl; buffer_is = refl; ended = λ f. inl end })
 
-pub unread : (hand : List ℕ) → hand ≡ [] → IsBoundedReading SAVED_PREFIX_BYTES (hand ++ [])
-unread hand e = rw e (record { at_the_bound = omega arith; at_the_feed = omega arith })
+pub unread : (buffered : List ℕ) → buffered ≡ [] → IsBoundedReading SAVED_PREFIX_BYTES (buffered ++ [])
+unread buffered e = rw e (record { at_the_bound = omega arith; at_the_feed = omega arith })
 
 -- what holds anyway holds of a value
 on_ok_any : {T E P : Type 0} (r : Result T E) → P → OnOk r P
@@ -116,49 +116,49 @@ on_text form moment c saved bytes more s feed =
     ∙ ap (λ l. answers_from form (state_after_resume_at c saved moment) 3 (lines_of l)) (behind_stays bytes more feed)
 
 -- no line feed came where nothing may follow
-never_follows : (may_follow : Bool) (hand part : List ℕ) (had : Option (List ℕ)) → (may_follow ≡ false → part ≡ [])
-    → (may_follow ≡ false → (hand ≡ []) × IsAtEnd had) → has_feed (hand ++ part) ≡ true → may_follow ≡ false → ⊥
-never_follows may_follow hand part had none end feed f =
-    let here : has_feed (hand ++ part) ≡ has_feed [] = rw ((end f).0, none f) refl in
+never_follows : (may_follow : Bool) (buffered part : List ℕ) (had : Option (List ℕ)) → (may_follow ≡ false → part ≡ [])
+    → (may_follow ≡ false → (buffered ≡ []) × IsAtEnd had) → has_feed (buffered ++ part) ≡ true → may_follow ≡ false → ⊥
+never_follows may_follow buffered part had none end feed f =
+    let here : has_feed (buffered ++ part) ≡ has_feed [] = rw ((end f).0, none f) refl in
     let e : true ≡ false = sym feed ∙ here in
     cc
 
--- nor so many bytes
-never_long : (may_follow : Bool) (hand part : List ℕ) (had : Option (List ℕ)) → (may_follow ≡ false → part ≡ [])
-    → (may_follow ≡ false → (hand ≡ []) × IsAtEnd had) → SAVED_PREFIX_BYTES ≤ length (hand ++ part) → may_follow ≡ false → ⊥
-never_long may_follow hand part had none end long f =
-    let size : length (hand ++ part) ≡ 0 = rw ((end f).0, none f) refl in
+-- nor this many bytes
+never_long : (may_follow : Bool) (buffered part : List ℕ) (had : Option (List ℕ)) → (may_follow ≡ false → part ≡ [])
+    → (may_follow ≡ false → (buffered ≡ []) × IsAtEnd had) → SAVED_PREFIX_BYTES ≤ length (buffered ++ part) → may_follow ≡ false → ⊥
+never_long may_follow buffered part had none end long f =
+    let size : length (buffered ++ part) ≡ 0 = rw ((end f).0, none f) refl in
     omega (arith, size, long)
 
--- ---- behind a setup
+-- ---- after a setup
 
 -- an error before anything was written, where these bytes come
-gone_by : {form : AnswerForm} (how : Start) (c : Configuration) (may_follow : Bool) (hand coming : List ℕ) (e : LiveError) (had left held holds : Option (List ℕ))
-    → IsInput had coming → (may_follow ≡ false → coming ≡ []) → Keeps held holds → IsContinuation form how c may_follow hand (Err e) (streams had left held holds)
-gone_by {form = form} how c may_follow hand coming e had left held holds input none kept =
+gone_by : {form : AnswerForm} (how : Start) (c : Configuration) (may_follow : Bool) (buffered coming : List ℕ) (e : LiveError) (had left held holds : Option (List ℕ))
+    → IsInput had coming → (may_follow ≡ false → coming ≡ []) → Keeps held holds → IsContinuation form how c may_follow buffered (Err e) (streams had left held holds)
+gone_by {form = form} how c may_follow buffered coming e had left held holds input none kept =
     record { coming = coming; is_input = input; short = none; outcome_is = tt; written = tt; read = tt; fault = leaves_kept (drive_error_of e) held holds _ kept }
 
-pub gone_unwritten : {form : AnswerForm} (how : Start) (c : Configuration) (may_follow : Bool) (hand part : List ℕ) (e : LiveError) (had left held holds : Option (List ℕ))
-    → Consumes had left part → (may_follow ≡ false → (hand ≡ []) × IsAtEnd had) → Keeps held holds
-    → IsContinuation form how c may_follow hand (Err e) (streams had left held holds)
-gone_unwritten {form = form} how c true hand part e had left held holds read end kept =
-    gone_by how c true hand (part ++ rest_of left) e had left held holds (input_on had left part (rest_of left) read (rest_input left)) (λ f. cc) kept
-gone_unwritten {form = form} how c false hand part e had left held holds read end kept =
-    gone_by how c false hand [] e had left held holds (end_input had (end refl).1) (λ f. refl) kept
+pub gone_unwritten : {form : AnswerForm} (how : Start) (c : Configuration) (may_follow : Bool) (buffered part : List ℕ) (e : LiveError) (had left held holds : Option (List ℕ))
+    → Consumes had left part → (may_follow ≡ false → (buffered ≡ []) × IsAtEnd had) → Keeps held holds
+    → IsContinuation form how c may_follow buffered (Err e) (streams had left held holds)
+gone_unwritten {form = form} how c true buffered part e had left held holds read end kept =
+    gone_by how c true buffered (part ++ rest_of left) e had left held holds (input_on had left part (rest_of left) read (rest_input left)) (λ f. cc) kept
+gone_unwritten {form = form} how c false buffered part e had left held holds read end kept =
+    gone_by how c false buffered [] e had left held holds (end_input had (end refl).1) (λ f. refl) kept
 
 -- an error before any line was answered
-pub unanswered : (form : AnswerForm) (begins : ℕ) (first : State) (hand : List ℕ) (e : LiveError) (had held : Option (List ℕ))
-    → AnsweringEnded {T = Outcome} form begins first hand (streams had had held held) (Err e)
-unanswered form begins first hand e had held =
+pub unanswered : (form : AnswerForm) (begins : ℕ) (first : State) (buffered : List ℕ) (e : LiveError) (had held : Option (List ℕ))
+    → AnsweringEnded {T = Outcome} form begins first buffered (streams had had held held) (Err e)
+unanswered form begins first buffered e had held =
     (rest_of had, rest_input had, tt, tt, leaves_kept (drive_error_of e) held held _ (Keeps-same held))
 
--- what is shown of the lines behind a setup from whose start on a scheduler is spoken to is what is shown of all behind it
-pub gone_opened : {form : AnswerForm} (moment : ℕ) (c : Configuration) (may_follow : Bool) (hand : List ℕ) (had left held holds : Option (List ℕ)) (r : Result Outcome LiveError)
-    → (may_follow ≡ false → (hand ≡ []) × IsAtEnd had) → IfOk r (λ o. o ≡ outcome.Ran)
+-- what is shown of the lines after a setup from whose start on a scheduler is spoken to is what is shown of all after it
+pub gone_opened : {form : AnswerForm} (moment : ℕ) (c : Configuration) (may_follow : Bool) (buffered : List ℕ) (had left held holds : Option (List ℕ)) (r : Result Outcome LiveError)
+    → (may_follow ≡ false → (buffered ≡ []) × IsAtEnd had) → IfOk r (λ o. o ≡ outcome.Ran)
     → (may_follow ≡ false → (r ≡ Ok outcome.Ran) × (left ≡ had) × (holds ≡ held))
-    → (may_follow ≡ true → AnsweringEnded form 2 (opening c moment) hand (streams had left held holds) r)
-    → IsContinuation form (start.Fresh moment) c may_follow hand r (streams had left held holds)
-gone_opened {form = form} moment c false hand had left held holds r end ran unread lines =
+    → (may_follow ≡ true → AnsweringEnded form 2 (opening c moment) buffered (streams had left held holds) r)
+    → IsContinuation form (start.Fresh moment) c may_follow buffered r (streams had left held holds)
+gone_opened {form = form} moment c false buffered had left held holds r end ran unread lines =
     let n = unread refl in
     let none = end refl in
     rw (n.0, n.1, n.2, none.0)
@@ -171,55 +171,56 @@ gone_opened {form = form} moment c false hand had left held holds r end ran unre
       read = Consumes-none had;
       fault = tt;
     })
-gone_opened {form = form} moment c true hand had left held holds r end ran unread lines =
+gone_opened {form = form} moment c true buffered had left held holds r end ran unread lines =
     let t = lines refl in
     record { coming = t.0; is_input = t.1; short = λ f. cc; outcome_is = ran; written = t.3; read = t.2; fault = t.4 }
 
 -- an input by which what was saved is refused
-pub record Refuses (may_follow : Bool) (hand : List ℕ) (had left : Option (List ℕ)) (why : InputRefusal) : Type 0 where
+pub record Refuses (may_follow : Bool) (buffered : List ℕ) (had left : Option (List ℕ)) (why : InputRefusal) : Type 0 where
   pub coming : List ℕ
   pub is_input : IsInput had coming
   pub short : may_follow ≡ false → coming ≡ []
-  pub refused : saved_at_start (hand ++ coming) ≡ Err why
+  pub refused : saved_at_start (buffered ++ coming) ≡ Err why
 
-refuses_on : (may_follow : Bool) (hand part : List ℕ) (had left : Option (List ℕ)) (why : InputRefusal) → Consumes had left part
-    → (may_follow ≡ false → ⊥) → saved_at_start ((hand ++ part) ++ rest_of left) ≡ Err why → Refuses may_follow hand had left why
-refuses_on may_follow hand part had left why read never s = record {
+refuses_on : (may_follow : Bool) (buffered part : List ℕ) (had left : Option (List ℕ)) (why : InputRefusal) → Consumes had left part
+    → (may_follow ≡ false → ⊥) → saved_at_start ((buffered ++ part) ++ rest_of left) ≡ Err why → Refuses may_follow buffered had left why
+refuses_on may_follow buffered part had left why read never s = record {
   coming = part ++ rest_of left;
   is_input = input_on had left part (rest_of left) read (rest_input left);
   short = λ f. absurd (never f);
-  refused = ap saved_at_start (sym (append_assoc hand part (rest_of left))) ∙ s;
+  refused = ap saved_at_start (sym (append_assoc buffered part (rest_of left))) ∙ s;
 }
 
-refuses_by : (may_follow : Bool) (hand part : List ℕ) (had left : Option (List ℕ)) (why : InputRefusal)
-    → saved_at_start (hand ++ part) ≡ Err why → Consumes had left part → (may_follow ≡ false → part ≡ [])
-    → (may_follow ≡ false → (hand ≡ []) × IsAtEnd had) → has_feed (hand ++ part) ≡ false
-    → IsAtEnd left ⊎ (SAVED_PREFIX_BYTES ≤ length (hand ++ part)) → Refuses may_follow hand had left why
-refuses_by may_follow hand part had left why s read none end free (inl ended) =
+refuses_by : (may_follow : Bool) (buffered part : List ℕ) (had left : Option (List ℕ)) (why : InputRefusal)
+    → saved_at_start (buffered ++ part) ≡ Err why → Consumes had left part → (may_follow ≡ false → part ≡ [])
+    → (may_follow ≡ false → (buffered ≡ []) × IsAtEnd had) → has_feed (buffered ++ part) ≡ false
+    → IsAtEnd left ⊎ (SAVED_PREFIX_BYTES ≤ length (buffered ++ part)) → Refuses may_follow buffered had left why
+refuses_by may_follow buffered part had left why s read none end free (inl ended) =
     record { coming = part; is_input = input_all had left part read ended; short = none; refused = s }
-refuses_by may_follow hand part had left why s read none end free (inr long) =
-    refuses_on may_follow hand part had left why read (never_long may_follow hand part had none end long)
-    (long_stays (hand ++ part) (rest_of left) free long ∙ s)
+refuses_by may_follow buffered part had left why s read none end free (inr long) =
+    refuses_on may_follow buffered part had left why read (never_long may_follow buffered part had none end long)
+    (long_stays (buffered ++ part) (rest_of left) free long ∙ s)
 
-refuses : (may_follow follow : Bool) (hand part : List ℕ) (had left : Option (List ℕ)) (why : InputRefusal)
-    → saved_at_start (hand ++ part) ≡ Err why → Consumes had left part → (may_follow ≡ false → part ≡ [])
-    → (may_follow ≡ false → (hand ≡ []) × IsAtEnd had) → follow ≡ has_feed (hand ++ part)
-    → (follow ≡ false → IsAtEnd left ⊎ (SAVED_PREFIX_BYTES ≤ length (hand ++ part))) → Refuses may_follow hand had left why
-refuses may_follow true hand part had left why s read none end feed ended =
-    refuses_on may_follow hand part had left why read (never_follows may_follow hand part had none end (sym feed))
-    (saved_stays (hand ++ part) (rest_of left) (sym feed) ∙ s)
-refuses may_follow false hand part had left why s read none end feed ended =
-    refuses_by may_follow hand part had left why s read none end (sym feed) (ended refl)
+refuses : (may_follow follow : Bool) (buffered part : List ℕ) (had left : Option (List ℕ)) (why : InputRefusal)
+    → saved_at_start (buffered ++ part) ≡ Err why → Consumes had left part → (may_follow ≡ false → part ≡ [])
+    → (may_follow ≡ false → (buffered ≡ []) × IsAtEnd had) → follow ≡ has_feed (buffered ++ part)
+    → (follow ≡ false → IsAtEnd left ⊎ (SAVED_PREFIX_BYTES ≤ length (buffered ++ part))) → Refuses may_follow buffered had left why
+refuses may_follow true buffered part had left why s read none end feed ended =
+    refuses_on may_follow buffered part had left why read (never_follows may_follow buffered part had none end (sym feed))
+    (saved_stays (buffered ++ part) (rest_of left) (sym feed) ∙ s)
+refuses may_follow false buffered part had left why s read none end feed ended =
+    refuses_by may_follow buffered part had left why s read none end (sym feed) (ended refl)
 
-gone_refused_by : {form : AnswerForm} (moment : Option ℕ) (c : Configuration) (may_follow : Bool) (hand part : List ℕ) (had left held holds : Option (List ℕ))
+gone_refused_by : {form : AnswerForm} (moment : Option ℕ) (c : Configuration) (may_follow : Bool) (buffered part : List ℕ)
+    (had left held holds : Option (List ℕ))
     (why : InputRefusal) (wrote : Result Outcome DriveError) (r : Result Outcome LiveError)
-    → Refuses may_follow hand had left why → Consumes had left part → IsBoundedReading SAVED_PREFIX_BYTES (hand ++ part)
+    → Refuses may_follow buffered had left why → Consumes had left part → IsBoundedReading SAVED_PREFIX_BYTES (buffered ++ part)
     → IfOk wrote (λ o. o ≡ outcome.Refused) → OnOk wrote (Appends held holds (refusal_text form [] why))
     → IfErr wrote (λ e. LeavesText e held holds (refusal_text form [] why)) → IsWriteResult r wrote
-    → IsContinuation form (start.Resumed moment) c may_follow hand r (streams had left held holds)
-gone_refused_by {form = form} moment c may_follow hand part had left held holds why wrote r z read soon refused written fault w =
+    → IsContinuation form (start.Resumed moment) c may_follow buffered r (streams had left held holds)
+gone_refused_by {form = form} moment c may_follow buffered part had left held holds why wrote r z read soon refused written fault w =
     let line = refusal_text form [] why in
-    let over = sym (over_refused moment c (hand ++ z.coming) why z.refused) in
+    let over = sym (over_refused moment c (buffered ++ z.coming) why z.refused) in
     let text = ap (answers_over form) over in
     record {
       coming = z.coming;
@@ -227,69 +228,69 @@ gone_refused_by {form = form} moment c may_follow hand part had left held holds 
       short = z.short;
       outcome_is = subst (λ k. IfOk r (λ o. o ≡ k)) (ap outcome_by over) (written_ifs r wrote (λ o. o ≡ outcome.Refused) w refused);
       written = subst (λ l. OnOk r (Appends held holds l)) text (written_oks r wrote (Appends held holds line) w written);
-      read = on_ok_any r (subst (λ q. ReadOver (λ bytes_read. hand ++ bytes_read) q had left z.coming) over (part, read, soon));
+      read = on_ok_any r (subst (λ q. ReadOver (λ bytes_read. buffered ++ bytes_read) q had left z.coming) over (part, read, soon));
       fault = subst (λ l. IfErr r (λ e. LeavesText (drive_error_of e) held holds l)) text (written_errs r wrote (λ e. LeavesText e held holds line) w fault);
     }
 
--- what is shown of the refusal of what was saved is what is shown of all behind the setup
-pub gone_refused : {form : AnswerForm} (moment : Option ℕ) (c : Configuration) (may_follow follow : Bool) (hand part : List ℕ) (had left held holds : Option (List ℕ))
+-- what is shown of the refusal of what was saved is what is shown of all after the setup
+pub gone_refused : {form : AnswerForm} (moment : Option ℕ) (c : Configuration) (may_follow follow : Bool) (buffered part : List ℕ) (had left held holds : Option (List ℕ))
     (why : InputRefusal) (wrote : Result Outcome DriveError) (r : Result Outcome LiveError)
-    → saved_at_start (hand ++ part) ≡ Err why → Consumes had left part → (may_follow ≡ false → part ≡ [])
-    → IsBoundedReading SAVED_PREFIX_BYTES (hand ++ part) → (may_follow ≡ false → (hand ≡ []) × IsAtEnd had) → follow ≡ has_feed (hand ++ part)
-    → (follow ≡ false → IsAtEnd left ⊎ (SAVED_PREFIX_BYTES ≤ length (hand ++ part)))
+    → saved_at_start (buffered ++ part) ≡ Err why → Consumes had left part → (may_follow ≡ false → part ≡ [])
+    → IsBoundedReading SAVED_PREFIX_BYTES (buffered ++ part) → (may_follow ≡ false → (buffered ≡ []) × IsAtEnd had) → follow ≡ has_feed (buffered ++ part)
+    → (follow ≡ false → IsAtEnd left ⊎ (SAVED_PREFIX_BYTES ≤ length (buffered ++ part)))
     → IfOk wrote (λ o. o ≡ outcome.Refused) → OnOk wrote (Appends held holds (refusal_text form [] why))
     → IfErr wrote (λ e. LeavesText e held holds (refusal_text form [] why)) → IsWriteResult r wrote
-    → IsContinuation form (start.Resumed moment) c may_follow hand r (streams had left held holds)
-gone_refused {form = form} moment c may_follow follow hand part had left held holds why wrote r s read none soon end feed ended refused written fault w =
-    gone_refused_by moment c may_follow hand part had left held holds why wrote r
-    (refuses may_follow follow hand part had left why s read none end feed ended) read soon refused written fault w
+    → IsContinuation form (start.Resumed moment) c may_follow buffered r (streams had left held holds)
+gone_refused {form = form} moment c may_follow follow buffered part had left held holds why wrote r s read none soon end feed ended refused written fault w =
+    gone_refused_by moment c may_follow buffered part had left held holds why wrote r
+    (refuses may_follow follow buffered part had left why s read none end feed ended) read soon refused written fault w
 
--- what is shown of the lines behind what was saved is what is shown of all behind the setup
-pub gone_answered : {form : AnswerForm} (moment : Option ℕ) (c : Configuration) (saved : Saved) (may_follow follow : Bool) (hand part : List ℕ)
+-- what is shown of the lines after what was saved is what is shown of all after the setup
+pub gone_answered : {form : AnswerForm} (moment : Option ℕ) (c : Configuration) (saved : Saved) (may_follow follow : Bool) (buffered part : List ℕ)
     (had mid left held holds : Option (List ℕ)) (r : Result Outcome LiveError)
-    → saved_at_start (hand ++ part) ≡ Ok saved → Consumes had mid part → (may_follow ≡ false → part ≡ [])
-    → (may_follow ≡ false → (hand ≡ []) × IsAtEnd had) → follow ≡ has_feed (hand ++ part) → (follow ≡ false → IsAtEnd mid)
+    → saved_at_start (buffered ++ part) ≡ Ok saved → Consumes had mid part → (may_follow ≡ false → part ≡ [])
+    → (may_follow ≡ false → (buffered ≡ []) × IsAtEnd had) → follow ≡ has_feed (buffered ++ part) → (follow ≡ false → IsAtEnd mid)
     → IfOk r (λ o. o ≡ outcome.Ran)
     → (follow ≡ false → IfErr r (λ e. e ≡ live.Memory) × (left ≡ mid) × (holds ≡ held))
-    → (follow ≡ true → AnsweringEnded form 3 (state_after_resume_at c saved moment) (rest_after_line (hand ++ part)) (streams mid left held holds) r)
-    → IsContinuation form (start.Resumed moment) c may_follow hand r (streams had left held holds)
-gone_answered {form = form} moment c saved may_follow false hand part had mid left held holds (Ok o) s read none end feed ended ran unread lines =
+    → (follow ≡ true → AnsweringEnded form 3 (state_after_resume_at c saved moment) (rest_after_line (buffered ++ part)) (streams mid left held holds) r)
+    → IsContinuation form (start.Resumed moment) c may_follow buffered r (streams had left held holds)
+gone_answered {form = form} moment c saved may_follow false buffered part had mid left held holds (Ok o) s read none end feed ended ran unread lines =
     let n = unread refl in
-    let text = none_text form moment c saved (hand ++ part) s (sym feed) in
+    let text = none_text form moment c saved (buffered ++ part) s (sym feed) in
     rw (ran, n.1, n.2)
     (record {
       coming = part;
       is_input = input_all had mid part read (ended refl);
       short = none;
-      outcome_is = sym (ap (λ r. outcome_by (from_saved moment c (hand ++ part) r)) s);
+      outcome_is = sym (ap (λ r. outcome_by (from_saved moment c (buffered ++ part) r)) s);
       written = subst (λ l. Appends held held l) (sym text) (Appends-none held);
-      read = subst (λ q. ReadOver (λ bytes_read. hand ++ bytes_read) (from_saved moment c (hand ++ part) q) had mid part) (sym s) read;
+      read = subst (λ q. ReadOver (λ bytes_read. buffered ++ bytes_read) (from_saved moment c (buffered ++ part) q) had mid part) (sym s) read;
       fault = tt;
     })
-gone_answered {form = form} moment c saved may_follow false hand part had mid left held holds (Err e) s read none end feed ended ran unread lines =
+gone_answered {form = form} moment c saved may_follow false buffered part had mid left held holds (Err e) s read none end feed ended ran unread lines =
     let n = unread refl in
-    rw (n.1, n.2) (gone_unwritten (start.Resumed moment) c may_follow hand part e had mid held held read end (Keeps-same held))
-gone_answered {form = form} moment c saved may_follow true hand part had mid left held holds (Ok o) s read none end feed ended ran unread lines =
+    rw (n.1, n.2) (gone_unwritten (start.Resumed moment) c may_follow buffered part e had mid held held read end (Keeps-same held))
+gone_answered {form = form} moment c saved may_follow true buffered part had mid left held holds (Ok o) s read none end feed ended ran unread lines =
     let t = lines refl in
-    let bytes = append_assoc hand part t.0 in
-    let stays = ap saved_at_start (sym bytes) ∙ saved_stays (hand ++ part) t.0 (sym feed) ∙ s in
-    let text = ap (λ l. answers_over form (beginning_over (start.Resumed moment) c l)) (sym bytes) ∙ on_text form moment c saved (hand ++ part) t.0 s (sym feed) in
+    let bytes = append_assoc buffered part t.0 in
+    let stays = ap saved_at_start (sym bytes) ∙ saved_stays (buffered ++ part) t.0 (sym feed) ∙ s in
+    let text = ap (λ l. answers_over form (beginning_over (start.Resumed moment) c l)) (sym bytes) ∙ on_text form moment c saved (buffered ++ part) t.0 s (sym feed) in
     record {
       coming = part ++ t.0;
       is_input = input_on had mid part t.0 read t.1;
-      short = λ f. absurd (never_follows may_follow hand part had none end (sym feed) f);
-      outcome_is = ran ∙ sym (ap (λ r. outcome_by (from_saved moment c (hand ++ (part ++ t.0)) r)) stays);
+      short = λ f. absurd (never_follows may_follow buffered part had none end (sym feed) f);
+      outcome_is = ran ∙ sym (ap (λ r. outcome_by (from_saved moment c (buffered ++ (part ++ t.0)) r)) stays);
       written = subst (λ l. Appends held holds l) (sym text) t.3;
-      read = subst (λ q. ReadOver (λ bytes_read. hand ++ bytes_read) (from_saved moment c (hand ++ (part ++ t.0)) q) had left (part ++ t.0)) (sym stays) (Consumes-then had mid left part t.0 read t.2);
+      read = subst (λ q. ReadOver (λ bytes_read. buffered ++ bytes_read) (from_saved moment c (buffered ++ (part ++ t.0)) q) had left (part ++ t.0)) (sym stays) (Consumes-then had mid left part t.0 read t.2);
       fault = tt;
     }
-gone_answered {form = form} moment c saved may_follow true hand part had mid left held holds (Err e) s read none end feed ended ran unread lines =
+gone_answered {form = form} moment c saved may_follow true buffered part had mid left held holds (Err e) s read none end feed ended ran unread lines =
     let t = lines refl in
-    let text = ap (λ l. answers_over form (beginning_over (start.Resumed moment) c l)) (sym (append_assoc hand part t.0)) ∙ on_text form moment c saved (hand ++ part) t.0 s (sym feed) in
+    let text = ap (λ l. answers_over form (beginning_over (start.Resumed moment) c l)) (sym (append_assoc buffered part t.0)) ∙ on_text form moment c saved (buffered ++ part) t.0 s (sym feed) in
     record {
       coming = part ++ t.0;
       is_input = input_on had mid part t.0 read t.1;
-      short = λ f. absurd (never_follows may_follow hand part had none end (sym feed) f);
+      short = λ f. absurd (never_follows may_follow buffered part had none end (sym feed) f);
       outcome_is = tt;
       written = tt;
       read = tt;
@@ -298,16 +299,17 @@ gone_answered {form = form} moment c saved may_follow true hand part had mid lef
 
 -- ---- the whole
 
--- nothing is at hand, and nothing comes, where no line feed followed a good setup
-ends_by : (c : Configuration) (bytes_read hand : List ℕ) (mid : Option (List ℕ)) → with_setup_refusal (setup_of (first_line_of bytes_read)) ≡ Ok c
-    → has_feed bytes_read ≡ false → hand ≡ rest_after_line bytes_read → IsAtEnd mid ⊎ (SETUP_PREFIX_BYTES ≤ length bytes_read) → (hand ≡ []) × IsAtEnd mid
-ends_by c bytes_read hand mid s free behind (inl at_end) = (behind ∙ behind_none bytes_read free, at_end)
-ends_by c bytes_read hand mid s free behind (inr long) = absurd (not_long c bytes_read s free long)
+-- nothing is buffered, and nothing comes, where no line feed followed a good setup
+ends_by : (c : Configuration) (bytes_read buffered : List ℕ) (mid : Option (List ℕ)) → with_setup_refusal (setup_of (first_line_of bytes_read)) ≡ Ok c
+    → has_feed bytes_read ≡ false → buffered ≡ rest_after_line bytes_read → IsAtEnd mid ⊎ (SETUP_PREFIX_BYTES ≤ length bytes_read)
+    → (buffered ≡ []) × IsAtEnd mid
+ends_by c bytes_read buffered mid s free behind (inl at_end) = (behind ∙ behind_none bytes_read free, at_end)
+ends_by c bytes_read buffered mid s free behind (inr long) = absurd (not_long c bytes_read s free long)
 
-pub ends_short : (c : Configuration) (bytes_read hand : List ℕ) (mid : Option (List ℕ)) (whole : Bool) → with_setup_refusal (setup_of (first_line_of bytes_read)) ≡ Ok c
-    → whole ≡ has_feed bytes_read → hand ≡ rest_after_line bytes_read → (whole ≡ false → IsAtEnd mid ⊎ (SETUP_PREFIX_BYTES ≤ length bytes_read))
-    → whole ≡ false → (hand ≡ []) × IsAtEnd mid
-ends_short c bytes_read hand mid whole s feed behind end f = ends_by c bytes_read hand mid s (sym feed ∙ f) behind (end f)
+pub ends_short : (c : Configuration) (bytes_read buffered : List ℕ) (mid : Option (List ℕ)) (whole : Bool) → with_setup_refusal (setup_of (first_line_of bytes_read)) ≡ Ok c
+    → whole ≡ has_feed bytes_read → buffered ≡ rest_after_line bytes_read → (whole ≡ false → IsAtEnd mid ⊎ (SETUP_PREFIX_BYTES ≤ length bytes_read))
+    → whole ≡ false → (buffered ≡ []) × IsAtEnd mid
+ends_short c bytes_read buffered mid whole s feed behind end f = ends_by c bytes_read buffered mid s (sym feed ∙ f) behind (end f)
 
 -- the parts of an input of which its setup was given, and of which no more comes where no line feed followed
 parts_stay : (bytes_read coming : List ℕ) (whole : Bool) → whole ≡ has_feed bytes_read → (whole ≡ false → coming ≡ [])
@@ -316,7 +318,7 @@ parts_stay bytes_read coming true feed none = (first_stays bytes_read coming (sy
 parts_stay bytes_read coming false feed none =
     rw (none refl) (ap first_line_of (append-nil bytes_read), ap rest_after_line (append-nil bytes_read) ∙ sym (append-nil (rest_after_line bytes_read)))
 
--- no more behind the setup than shows it, whether the setup's line feed was given before or not
+-- no more after the setup than shows it, whether the setup's line feed was given before or not
 soon_behind : (bytes_read more : List ℕ) (whole : Bool) → whole ≡ has_feed bytes_read → IsBoundedReading SAVED_PREFIX_BYTES (rest_after_line bytes_read ++ more)
     → IsBoundedReading SAVED_PREFIX_BYTES (rest_after_line (bytes_read ++ more))
 soon_behind bytes_read more true feed soon = rw (behind_stays bytes_read more (sym feed)) soon
@@ -347,7 +349,7 @@ live_read how c bytes_read coming had mid left whole feed s b read later =
     (subst (λ l. ReadOver rest_after_line (beginning_over how c l) had left (bytes_read ++ coming)) (sym b)
     (read_behind (beginning_over how c (rest_after_line bytes_read ++ coming)) had mid left bytes_read coming whole feed read later))
 
--- what is shown of all behind a setup is what is shown of the whole
+-- what is shown of all after a setup is what is shown of the whole
 pub whole_gone : {form : AnswerForm} (how : Start) (c : Configuration) (bytes_read : List ℕ) (had mid left held holds : Option (List ℕ)) (whole : Bool)
     (r : Result Outcome LiveError)
     → with_setup_refusal (setup_of (first_line_of bytes_read)) ≡ Ok c → whole ≡ has_feed bytes_read → Consumes had mid bytes_read
@@ -413,28 +415,28 @@ setup_refusal {form = form} how bytes_read had left held holds why whole (Err e)
 
 -- ---- a loop that is spent
 
-pub memory_later : (e : LiveError) (hand : List ℕ) (had left : Option (List ℕ)) → e ≡ live.Memory → IsSpentAfterSetup hand had left e
-memory_later e hand had left is = λ s. absurd (subst IsSpent is s)
+pub memory_later : (e : LiveError) (buffered : List ℕ) (had left : Option (List ℕ)) → e ≡ live.Memory → IsSpentAfterSetup buffered had left e
+memory_later e buffered had left is = λ s. absurd (subst IsSpent is s)
 
 -- each line that was answered has a byte at least
-lines_many : (form : AnswerForm) (e : LiveError) (begins : ℕ) (first : State) (hand : List ℕ) (had left held holds : Option (List ℕ))
-    → IsSpentAfterLines form begins first hand (streams had left held holds) e → IsSpent e → HasHadAtLeast (2 ^ 64 - 1 - begins) hand had left
-lines_many form (live.Reader fault) begins first hand had left held holds a s = absurd s
-lines_many form live.Writer begins first hand had left held holds a s = absurd s
-lines_many form live.Memory begins first hand had left held holds a s = absurd s
-lines_many form live.LinesSpent begins first hand had left held holds a s =
-    let there = length-append hand a.bytes_read in
+lines_many : (form : AnswerForm) (e : LiveError) (begins : ℕ) (first : State) (buffered : List ℕ) (had left held holds : Option (List ℕ))
+    → IsSpentAfterLines form begins first buffered (streams had left held holds) e → IsSpent e → HasHadAtLeast (2 ^ 64 - 1 - begins) buffered had left
+lines_many form (live.Reader fault) begins first buffered had left held holds a s = absurd s
+lines_many form live.Writer begins first buffered had left held holds a s = absurd s
+lines_many form live.Memory begins first buffered had left held holds a s = absurd s
+lines_many form live.LinesSpent begins first buffered had left held holds a s =
+    let there = length-append buffered a.bytes_read in
     let parts = ap length a.parts in
     let sizes = length-append a.front a.rest in
     let least = length-lines_of a.front in
     (a.bytes_read, a.consumed, omega (arith, there, parts, sizes, least, a.lines))
-lines_many form live.ReadsSpent begins first hand had left held holds g s = (g.0, g.1, omega (arith, g.2))
+lines_many form live.ReadsSpent begins first buffered had left held holds g s = (g.0, g.1, omega (arith, g.2))
 
-pub opened_later : (form : AnswerForm) {T : Type 0} (r : Result T LiveError) (first : State) (hand : List ℕ) (had left held holds : Option (List ℕ))
-    → IfErr r (IsSpentAfterLines form 2 first hand (streams had left held holds)) → IfErr r (IsSpentAfterSetup hand had left)
-opened_later form (Ok x) first hand had left held holds h = tt
-opened_later form (Err e) first hand had left held holds h = λ s.
-    let many = lines_many form e 2 first hand had left held holds h s in (many.0, many.1, omega (arith, many.2))
+pub opened_later : (form : AnswerForm) {T : Type 0} (r : Result T LiveError) (first : State) (buffered : List ℕ) (had left held holds : Option (List ℕ))
+    → IfErr r (IsSpentAfterLines form 2 first buffered (streams had left held holds)) → IfErr r (IsSpentAfterSetup buffered had left)
+opened_later form (Ok x) first buffered had left held holds h = tt
+opened_later form (Err e) first buffered had left held holds h = λ s.
+    let many = lines_many form e 2 first buffered had left held holds h s in (many.0, many.1, omega (arith, many.2))
 
 -- a line with its line feed has one byte at least
 behind_less : (bytes : List ℕ) → has_feed bytes ≡ true → length (rest_after_line bytes) < length bytes
@@ -445,25 +447,26 @@ behind_less (b ∷ bs) feed =
       | false ↦ λ h. let again = behind_less bs h in omega (arith, again)
     ]) feed
 
--- the loops behind a saved state whose line feed was given
-lines_later : (form : AnswerForm) (e : LiveError) (first : State) (hand part : List ℕ) (had mid left held holds : Option (List ℕ)) → has_feed (hand ++ part) ≡ true
-    → Consumes had mid part → IsSpentAfterLines form 3 first (rest_after_line (hand ++ part)) (streams mid left held holds) e → IsSpentAfterSetup hand had left e
-lines_later form e first hand part had mid left held holds feed read a = λ s.
-    let many = lines_many form e 3 first (rest_after_line (hand ++ part)) mid left held holds a s in
+-- the loops after a saved state whose line feed was given
+lines_later : (form : AnswerForm) (e : LiveError) (first : State) (buffered part : List ℕ) (had mid left held holds : Option (List ℕ)) → has_feed (buffered ++ part) ≡ true
+    → Consumes had mid part → IsSpentAfterLines form 3 first (rest_after_line (buffered ++ part)) (streams mid left held holds) e → IsSpentAfterSetup buffered had left e
+lines_later form e first buffered part had mid left held holds feed read a = λ s.
+    let many = lines_many form e 3 first (rest_after_line (buffered ++ part)) mid left held holds a s in
     let all = length-append part many.0 in
-    let both = length-append hand part in
-    let less = behind_less (hand ++ part) feed in
+    let both = length-append buffered part in
+    let less = behind_less (buffered ++ part) feed in
     (part ++ many.0, Consumes-then had mid left part many.0 read many.1, omega (arith, all, both, less, many.2))
 
-pub answered_later : (form : AnswerForm) {T : Type 0} (r : Result T LiveError) (first : State) (hand part : List ℕ) (had mid left held holds : Option (List ℕ)) (follow : Bool)
-    → follow ≡ has_feed (hand ++ part) → Consumes had mid part → (follow ≡ false → IfErr r (λ e. e ≡ live.Memory))
-    → IfErr r (IsSpentAfterLines form 3 first (rest_after_line (hand ++ part)) (streams mid left held holds)) → IfErr r (IsSpentAfterSetup hand had left)
-answered_later form (Ok y) first hand part had mid left held holds follow feed read none h = tt
-answered_later form (Err e) first hand part had mid left held holds false feed read none h = memory_later e hand had left (none refl)
-answered_later form (Err e) first hand part had mid left held holds true feed read none h =
-    lines_later form e first hand part had mid left held holds (sym feed) read h
+pub answered_later : (form : AnswerForm) {T : Type 0} (r : Result T LiveError) (first : State) (buffered part : List ℕ) (had mid left held holds : Option (List ℕ)) (follow : Bool)
+    → follow ≡ has_feed (buffered ++ part) → Consumes had mid part → (follow ≡ false → IfErr r (λ e. e ≡ live.Memory))
+    → IfErr r (IsSpentAfterLines form 3 first (rest_after_line (buffered ++ part)) (streams mid left held holds))
+    → IfErr r (IsSpentAfterSetup buffered had left)
+answered_later form (Ok y) first buffered part had mid left held holds follow feed read none h = tt
+answered_later form (Err e) first buffered part had mid left held holds false feed read none h = memory_later e buffered had left (none refl)
+answered_later form (Err e) first buffered part had mid left held holds true feed read none h =
+    lines_later form e first buffered part had mid left held holds (sym feed) read h
 
--- the loops behind a setup that was given so
+-- the loops after a setup that was given so
 later_spends : (e : LiveError) (bytes_read : List ℕ) (had mid left : Option (List ℕ)) → Consumes had mid bytes_read
     → IsSpentAfterSetup (rest_after_line bytes_read) mid left e → IsSpentAfterInput had left e
 later_spends e bytes_read had mid left read h = λ s.

@@ -1,4 +1,4 @@
--- A run that is cut behind some of its lines, saved there, and gone on from over the same setup.
+-- A run that is cut after some of its lines, saved there, and continued from over the same setup.
 use Rattle.std.proofs.Common.{◌≡◌, ℕ, ◌+◌, ◌≤◌, ◌^◌, Bool, true, false, cond, List, [], ◌∷◌, ◌++◌, length, Option, Some, None, Result, Ok, Err}
 use Rattle.std.proofs.Common.{refl, sym, ap, ◌∙◌, arith, append_assoc, append-nil}
 use Rattle.std.proofs.lemmas.Str.{is_utf8-from_IsUtf8}
@@ -66,7 +66,7 @@ command_again : {K : Type 0} (meaning : List ℕ → Items → Result K LineFaul
 unfolding command_of
 command_again meaning n k line x e = again_by (nat_lt 4096 (length line)) (tree_of line) (command_in meaning) n k x e
 
--- the commands that go on with a first one
+-- the commands that continue with a first one
 abbrev goes_on : {K : Type 0} → Result K InputRefusal → Result (List K) InputRefusal → Result (List K) InputRefusal
 goes_on r rest = r >>= λ first. (rest >>= λ more. Ok (first ∷ more))
 
@@ -89,7 +89,7 @@ commands_again meaning (l ∷ ls) n b e k =
           ∙ ap (goes_on (Ok p.0)) (commands_again meaning ls (n + 1) p.1 p.3 (k + 1)) ∙ ap Ok p.4
     ]) e
 
--- the commands of lines are those of the first of them, and of the others behind them
+-- the commands of lines are those of the first of them, and of the others after them
 split : {K : Type 0} (meaning : List ℕ → Items → Result K LineFault) (xs ys : List (List ℕ)) (n : ℕ) (all : List K)
     → commands_from meaning n (xs ++ ys) ≡ Ok all
     → (a : List K) × (b : List K) × ((k : ℕ) → commands_from meaning k xs ≡ Ok a) × ((k : ℕ) → commands_from meaning k ys ≡ Ok b) × (all ≡ a ++ b)

@@ -26,12 +26,12 @@ use Rattle.nagsched_protocol.proofs.OutputLemmas.{Appends-Keeps, front_all}
 use Rattle.nagsched_protocol.proofs.WrittenLemmas.{Keeps-same}
 use Rattle.nagsched_protocol.specs.declared.outcome.Outcome.{Outcome}
 use Rattle.nagsched_protocol.specs.Streams.{outcome_by, streams}
-use Rattle.nagsched_protocol.proofs.ReadLemmas.{IsOfRead, input_of, input_of-is, input_of-says, limit_tells, read_input, too_long_tells}
+use Rattle.nagsched_protocol.proofs.ReadLemmas.{IsOfRead, input_of, input_of-is, input_of-says, refused_past_limit, read_input, read_part_agrees}
 use Rattle.nagsched_run.specs.Drive.{RunEnded, LeavesRun, outcome_of, run_note}
 
 script_take : (how : Start) → IsOfRead (script_of how)
 unfolding script_of
-script_take how = too_long_tells (script_of how) (Err (refusals.Line line_fault.TooLong 0)) (limit_tells _)
+script_take how = read_part_agrees (script_of how) (Err (refusals.Line line_fault.TooLong 0)) (refused_past_limit _)
 
 pub text_take : (how : Start) → IsOfRead (text how)
 unfolding text
@@ -43,7 +43,7 @@ outcome_take how bytes = ap outcome_by (script_take how bytes)
 
 note_take : (how : Start) → IsOfRead (run_note how)
 unfolding run_note script_of
-note_take how = note_of_read (script_of how) (limit_tells (λ input. beginning_of how input >>= script_from))
+note_take how = note_of_read (script_of how) (refused_past_limit (λ input. beginning_of how input >>= script_from))
 
 -- ---- a refused input
 

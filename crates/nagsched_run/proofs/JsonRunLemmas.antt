@@ -1,5 +1,6 @@
 -- A whole run whose answers are JSON objects, and what its faults leave.
-use Rattle.std.proofs.Common.{◌≡◌, ◌≢◌, ℕ, Bool, true, false, cond, List, [], take, Option, Some, None, Result, Ok, Err, refl, sym, subst, ap, ◌∙◌, ◌++◌, length, inl, inr, String}
+use Rattle.std.proofs.Common.{◌≡◌, ◌≢◌, ℕ, Bool, true, false, cond, List, [], take, Option, Some, None, Result, Ok, Err, refl, sym, subst, ap, ◌∙◌, ◌++◌}
+use Rattle.std.proofs.Common.{length, inl, inr, String}
 use Rattle.std.specs.Prelude.{IfOk, IfSome, IsErrAnd, OnOk, nat_lt, string_bytes}
 use Rattle.std.specs.declared.alloc.Global.{Global}
 use Rattle.std.specs.Io.KnownBytes.{Appends, Keeps, Consumes}
@@ -28,13 +29,14 @@ use Rattle.nagsched_protocol.specs.Input.{first_line_of, lines_of}
 use Rattle.nagsched_protocol.specs.LiveInput.{rest_after_line}
 use Rattle.nagsched_protocol.specs.LiveText.{live_text}
 use Rattle.nagsched_protocol.specs.Notes.{IsNote}
-use Rattle.nagsched_protocol.specs.Script.{beginning_of, beginning_over, refused_bytes, requests_in, requests_of, requests_over, state_after_resume_at, with_saved_refusal, with_setup_refusal}
+use Rattle.nagsched_protocol.specs.Script.{beginning_of, beginning_over, refused_bytes, requests_in, requests_of, requests_over, state_after_resume_at}
+use Rattle.nagsched_protocol.specs.Script.{with_saved_refusal, with_setup_refusal}
 use Rattle.nagsched_protocol.proofs.LiveLaws.{begun}
 use Rattle.nagsched_protocol.specs.Streams.{outcome_by, streams}
 use Rattle.nagsched_protocol.specs.Written.{IsLineWritten}
 use Rattle.nagsched_protocol.proofs.NoteLemmas.{no_line, note_of_read}
 use Rattle.nagsched_protocol.proofs.OutputLemmas.{Appends-Keeps}
-use Rattle.nagsched_protocol.proofs.ReadLemmas.{IsOfRead, input_of, input_of-is, input_of-says, limit_tells, read_input, too_long_tells}
+use Rattle.nagsched_protocol.proofs.ReadLemmas.{IsOfRead, input_of, input_of-is, input_of-says, refused_past_limit, read_input, read_part_agrees}
 use Rattle.nagsched_protocol.proofs.WrittenLemmas.{Keeps-same}
 use Rattle.nagsched_run.specs.JsonRun.{IsJsonText, JsonRunEnded, json_outcome, json_run_note, json_run_text, text_by}
 use Rattle.nagsched_run.specs.Live.{ConversationEnded, LeavesText}
@@ -47,16 +49,16 @@ tests_of how input = with_setup_refusal (setup_of (first_line_of input)) >>= λ 
 
 pub text_take : (how : Start) → IsOfRead (json_run_text how)
 unfolding json_run_text requests_of
-text_take how = too_long_tells (json_run_text how) (refusal_text forms.Json [] (refusals.Line line_fault.TooLong 0)) (λ bytes h.
-    ap (text_by how bytes) (limit_tells (tests_of how) bytes h) ∙ ap (λ line. refusal_text forms.Json line (refusals.Line line_fault.TooLong 0)) (no_line (lines_of bytes)))
+text_take how = read_part_agrees (json_run_text how) (refusal_text forms.Json [] (refusals.Line line_fault.TooLong 0)) (λ bytes h.
+    ap (text_by how bytes) (refused_past_limit (tests_of how) bytes h) ∙ ap (λ line. refusal_text forms.Json line (refusals.Line line_fault.TooLong 0)) (no_line (lines_of bytes)))
 
 pub outcome_take : (how : Start) → IsOfRead (json_outcome how)
 unfolding json_outcome requests_of
-outcome_take how = too_long_tells (json_outcome how) outcomes.Refused (λ bytes h. ap outcome_by (limit_tells (tests_of how) bytes h))
+outcome_take how = read_part_agrees (json_outcome how) outcomes.Refused (λ bytes h. ap outcome_by (refused_past_limit (tests_of how) bytes h))
 
 note_take : (how : Start) → IsOfRead (json_run_note how)
 unfolding json_run_note requests_of
-note_take how = note_of_read (requests_of how) (limit_tells (tests_of how))
+note_take how = note_of_read (requests_of how) (refused_past_limit (tests_of how))
 
 -- ---- a conversation over an input whose lines were tested
 

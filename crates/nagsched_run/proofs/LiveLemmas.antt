@@ -74,7 +74,7 @@ leaves_none errors.Read held text = front_none held text
 leaves_none errors.Write held text = front_none held text
 leaves_none errors.Memory held text = record { front = []; rest = text; parts = refl; appended = Appends-none held; whole = inl refl }
 
--- behind whole lines that were written before
+-- after whole lines that were written before
 pub leaves_on : (e : DriveError) (held mid holds : Option (List ℕ)) (front rest text : List ℕ) → AreWholeLines front → Appends held mid front
     → text ≡ front ++ rest → LeavesText e mid holds rest → LeavesText e held holds text
 leaves_on errors.Read held mid holds front rest text w a p (r, f) = (
@@ -101,7 +101,7 @@ leaves_on errors.Memory held mid holds front rest text w a p f = record {
   whole = whole_on front f.front w f.whole;
 }
 
--- of a text that goes on
+-- of a text that continues
 pub leaves_more : (e : DriveError) (held holds : Option (List ℕ)) (text rest : List ℕ) → LeavesText e held holds text → LeavesText e held holds (text ++ rest)
 leaves_more errors.Read held holds text rest (r, f) = (
   r ++ rest,
@@ -178,18 +178,18 @@ no_answer forms.Words s n = refl
 no_answer forms.Explained s n = refl
 no_answer forms.Json s n = refl
 
--- bytes with a line feed are a line and those behind it, whatever comes later
+-- bytes with a line feed are a line and those after it, whatever comes later
 lines_on : (bytes more : List ℕ) → has_feed bytes ≡ true → lines_of (bytes ++ more) ≡ first_line_of bytes ∷ lines_of (rest_after_line bytes ++ more)
 lines_on [] more h = cc
 lines_on (b ∷ bs) more h =
     lines_apart b (bs ++ more) ∙ ap (λ l. l ∷ lines_of (rest_after_line (b ∷ bs ++ more))) (first_stays (b ∷ bs) more h)
     ∙ ap (λ l. first_line_of (b ∷ bs) ∷ lines_of l) (behind_stays (b ∷ bs) more h)
 
-pub answers_on : (form : AnswerForm) (s : State) (n : ℕ) (hand bytes_read more : List ℕ) → has_feed (hand ++ bytes_read) ≡ true
-    → answers_from form s n (lines_of (hand ++ (bytes_read ++ more))) ≡ answer form s n (first_line_of (hand ++ bytes_read))
-    ++ answers_from form (state_after form s n (first_line_of (hand ++ bytes_read))) (n + 1) (lines_of (rest_after_line (hand ++ bytes_read) ++ more))
-answers_on form s n hand bytes_read more h =
-    ap (λ l. answers_from form s n (lines_of l)) (sym (append_assoc hand bytes_read more)) ∙ ap (answers_from form s n) (lines_on (hand ++ bytes_read) more h)
+pub answers_on : (form : AnswerForm) (s : State) (n : ℕ) (buffered bytes_read more : List ℕ) → has_feed (buffered ++ bytes_read) ≡ true
+    → answers_from form s n (lines_of (buffered ++ (bytes_read ++ more))) ≡ answer form s n (first_line_of (buffered ++ bytes_read))
+    ++ answers_from form (state_after form s n (first_line_of (buffered ++ bytes_read))) (n + 1) (lines_of (rest_after_line (buffered ++ bytes_read) ++ more))
+answers_on form s n buffered bytes_read more h =
+    ap (λ l. answers_from form s n (lines_of l)) (sym (append_assoc buffered bytes_read more)) ∙ ap (answers_from form s n) (lines_on (buffered ++ bytes_read) more h)
 
 -- the last line has no line feed; no byte is no line, and answered like a blank one
 pub answers_last : (form : AnswerForm) (s : State) (n : ℕ) (bytes : List ℕ) → has_feed bytes ≡ false
@@ -200,12 +200,12 @@ answers_last form s n (b ∷ bs) h =
 
 -- ---- one line after another
 
--- the state behind these lines
+-- the state after these lines
 abbrev pub state_behind : AnswerForm → State → ℕ → List (List ℕ) → State
 state_behind form s n [] = s
 state_behind form s n (line ∷ lines) = state_behind form (state_after form s n line) (n + 1) lines
 
--- the answers to lines and one more, and the state behind them
+-- the answers to lines and one more, and the state after them
 answers_then : (form : AnswerForm) (s : State) (n : ℕ) (lines : List (List ℕ)) (line : List ℕ)
     → answers_from form s n (lines ++ line ∷ []) ≡ answers_from form s n lines ++ answer form (state_behind form s n lines) (n + length lines) line
 answers_then form s n [] line = append-nil _ ∙ ap (λ k. answer form s k line) (let e : n ≡ n + 0 = omega arith in e)
@@ -237,26 +237,26 @@ one_behind form begins first lines line s number same n = rw (same, n) (answers_
 one_more : (taken line : List ℕ) → AreWholeLines taken → has_feed line ≡ false → lines_of (taken ++ (line ++ 10 ∷ [])) ≡ lines_of taken ++ line ∷ []
 one_more taken line full free = lines_by taken (line ++ 10 ∷ []) full ∙ ap (λ l. lines_of taken ++ l) (line_first line [] free)
 
-taken_more : (opened hand rest part bytes_read taken : List ℕ) → opened ++ bytes_read ≡ taken ++ hand → has_feed (hand ++ part) ≡ true → rest ≡ rest_after_line (hand ++ part)
-    → opened ++ (bytes_read ++ part) ≡ (taken ++ (first_line_of (hand ++ part) ++ 10 ∷ [])) ++ rest
-taken_more opened hand rest part bytes_read taken e feed behind =
-    let line = first_line_of (hand ++ part) in
-    sym (append_assoc opened bytes_read part) ∙ ap (λ l. l ++ part) e ∙ append_assoc taken hand part
-    ∙ ap (λ l. taken ++ l) (feed_split (hand ++ part) feed ∙ ap (λ l. line ++ 10 ∷ l) (sym behind) ∙ sym (append_assoc line (10 ∷ []) rest))
+taken_more : (opened buffered rest part bytes_read taken : List ℕ) → opened ++ bytes_read ≡ taken ++ buffered → has_feed (buffered ++ part) ≡ true → rest ≡ rest_after_line (buffered ++ part)
+    → opened ++ (bytes_read ++ part) ≡ (taken ++ (first_line_of (buffered ++ part) ++ 10 ∷ [])) ++ rest
+taken_more opened buffered rest part bytes_read taken e feed behind =
+    let line = first_line_of (buffered ++ part) in
+    sym (append_assoc opened bytes_read part) ∙ ap (λ l. l ++ part) e ∙ append_assoc taken buffered part
+    ∙ ap (λ l. taken ++ l) (feed_split (buffered ++ part) feed ∙ ap (λ l. line ++ 10 ∷ l) (sym behind) ∙ sym (append_assoc line (10 ∷ []) rest))
     ∙ sym (append_assoc taken (line ++ 10 ∷ []) rest)
 
--- Where a conversation stands that began at this state with these bytes at hand: the bytes that were given, the whole lines that
--- were written, and that the text goes on from here as it goes on from the beginning, whatever comes later.
--- Those bytes are whole lines from the beginning of what was at hand and was given, with their answers and the state behind them.
-pub record Talked (form : AnswerForm) (begins : ℕ) (first : State) (opened : List ℕ) (had left held holds : Option (List ℕ)) (number : ℕ) (s : State) (hand : List ℕ) : Type 0 where
+-- Where a conversation stands that began at this state with these bytes buffered: the bytes that were given, the whole lines that
+-- were written, and that the text continues from here as it continues from the beginning, whatever comes later.
+-- Those bytes are whole lines from the beginning of what was buffered and was given, with their answers and the state after them.
+pub record Talked (form : AnswerForm) (begins : ℕ) (first : State) (opened : List ℕ) (had left held holds : Option (List ℕ)) (number : ℕ) (s : State) (buffered : List ℕ) : Type 0 where
   pub bytes_read : List ℕ
   pub front : List ℕ
   pub consumed : Consumes had left bytes_read
   pub appended : Appends held holds front
   pub whole : AreWholeLines front
-  pub goes_on : (more : List ℕ) → answers_from form first begins (lines_of (opened ++ (bytes_read ++ more))) ≡ front ++ answers_from form s number (lines_of (hand ++ more))
+  pub goes_on : (more : List ℕ) → answers_from form first begins (lines_of (opened ++ (bytes_read ++ more))) ≡ front ++ answers_from form s number (lines_of (buffered ++ more))
   pub taken : List ℕ
-  pub parts : opened ++ bytes_read ≡ taken ++ hand
+  pub parts : opened ++ bytes_read ≡ taken ++ buffered
   pub full : AreWholeLines taken
   pub count : length (lines_of taken) + begins ≡ number
   pub answers : front ≡ answers_from form first begins (lines_of taken)
@@ -280,16 +280,16 @@ talk_begins {form = form} begins first opened had held =
     }
 
 -- a whole line was answered
-pub talk_goes_on : {form : AnswerForm} (begins : ℕ) (first s t : State) (opened hand rest part : List ℕ) (had mid left held wrote holds : Option (List ℕ)) (number : ℕ)
-    → Talked form begins first opened had mid held wrote number s hand → Consumes mid left part → has_feed (hand ++ part) ≡ true → rest ≡ rest_after_line (hand ++ part)
-    → t ≡ state_after form s number (first_line_of (hand ++ part))
-    → Appends wrote holds (answer form s number (first_line_of (hand ++ part)))
+pub talk_goes_on : {form : AnswerForm} (begins : ℕ) (first s t : State) (opened buffered rest part : List ℕ) (had mid left held wrote holds : Option (List ℕ)) (number : ℕ)
+    → Talked form begins first opened had mid held wrote number s buffered → Consumes mid left part → has_feed (buffered ++ part) ≡ true → rest ≡ rest_after_line (buffered ++ part)
+    → t ≡ state_after form s number (first_line_of (buffered ++ part))
+    → Appends wrote holds (answer form s number (first_line_of (buffered ++ part)))
     → Talked form begins first opened had left held holds (number + 1) t rest
-talk_goes_on {form = form} begins first s t opened hand rest part had mid left held wrote holds number k read feed behind after wrote_it =
-    let line = first_line_of (hand ++ part) in
-    let bytes = first_line_of (hand ++ part) ++ 10 ∷ [] in
-    let lines = one_more k.taken (first_line_of (hand ++ part)) k.full (first_free (hand ++ part)) in
-    let more = one_behind form begins first (lines_of k.taken) (first_line_of (hand ++ part)) s number k.state (number_is _ _ _ k.count) in
+talk_goes_on {form = form} begins first s t opened buffered rest part had mid left held wrote holds number k read feed behind after wrote_it =
+    let line = first_line_of (buffered ++ part) in
+    let bytes = first_line_of (buffered ++ part) ++ 10 ∷ [] in
+    let lines = one_more k.taken (first_line_of (buffered ++ part)) k.full (first_free (buffered ++ part)) in
+    let more = one_behind form begins first (lines_of k.taken) (first_line_of (buffered ++ part)) s number k.state (number_is _ _ _ k.count) in
     record {
       bytes_read = k.bytes_read ++ part;
       front = k.front ++ answer form s number line;
@@ -298,69 +298,71 @@ talk_goes_on {form = form} begins first s t opened hand rest part had mid left h
       whole = whole_on k.front (answer form s number line) k.whole (answer_lines form s number line);
       goes_on = λ more.
           ap (λ l. answers_from form first begins (lines_of (opened ++ l))) (append_assoc k.bytes_read part more) ∙ k.goes_on (part ++ more)
-          ∙ ap (λ l. k.front ++ l) (answers_on form s number hand part more feed
-          ∙ ap (λ l. answer form s number line ++ l) (ap (λ u. answers_from form u (number + 1) (lines_of (rest_after_line (hand ++ part) ++ more))) (sym after)
+          ∙ ap (λ l. k.front ++ l) (answers_on form s number buffered part more feed
+          ∙ ap (λ l. answer form s number line ++ l) (ap (λ u. answers_from form u (number + 1) (lines_of (rest_after_line (buffered ++ part) ++ more))) (sym after)
           ∙ ap (λ l. answers_from form t (number + 1) (lines_of (l ++ more))) (sym behind)))
           ∙ sym (append_assoc k.front (answer form s number line) _);
       taken = k.taken ++ bytes;
-      parts = taken_more opened hand rest part k.bytes_read k.taken k.parts feed behind;
-      full = inr (k.taken ++ first_line_of (hand ++ part), sym (append_assoc k.taken (first_line_of (hand ++ part)) (10 ∷ [])));
-      count = (let sizes = ap length lines ∙ length-append (lines_of k.taken) (first_line_of (hand ++ part) ∷ []) in omega (arith, sizes, k.count));
+      parts = taken_more opened buffered rest part k.bytes_read k.taken k.parts feed behind;
+      full = inr (k.taken ++ first_line_of (buffered ++ part), sym (append_assoc k.taken (first_line_of (buffered ++ part)) (10 ∷ [])));
+      count = (let sizes = ap length lines ∙ length-append (lines_of k.taken) (first_line_of (buffered ++ part) ∷ []) in omega (arith, sizes, k.count));
       answers = ap (λ l. l ++ answer form s number line) k.answers ∙ sym more.0 ∙ ap (answers_from form first begins) (sym lines);
       state = after ∙ sym more.1 ∙ ap (state_behind form first begins) (sym lines);
     }
 
 -- the text to the end, where the last line has no line feed
-ended_text : {form : AnswerForm} (begins : ℕ) (first s : State) (opened hand part : List ℕ) (had mid left held wrote : Option (List ℕ)) (number : ℕ)
-    → (k : Talked form begins first opened had mid held wrote number s hand) → has_feed (hand ++ part) ≡ false
-    → answers_from form first begins (lines_of (opened ++ (k.bytes_read ++ part))) ≡ k.front ++ answer form s number (first_line_of (hand ++ part))
-ended_text {form = form} begins first s opened hand part had mid left held wrote number k free =
-    k.goes_on part ∙ ap (λ l. k.front ++ l) (answers_last form s number (hand ++ part) free)
+ended_text : {form : AnswerForm} (begins : ℕ) (first s : State) (opened buffered part : List ℕ) (had mid left held wrote : Option (List ℕ)) (number : ℕ)
+    → (k : Talked form begins first opened had mid held wrote number s buffered) → has_feed (buffered ++ part) ≡ false
+    → answers_from form first begins (lines_of (opened ++ (k.bytes_read ++ part))) ≡ k.front ++ answer form s number (first_line_of (buffered ++ part))
+ended_text {form = form} begins first s opened buffered part had mid left held wrote number k free =
+    k.goes_on part ∙ ap (λ l. k.front ++ l) (answers_last form s number (buffered ++ part) free)
 
 -- the input ended, and the writer was flushed or not
-pub talk_ends : {form : AnswerForm} (begins : ℕ) (first s : State) (opened hand part : List ℕ) (had mid left held wrote wrote' holds : Option (List ℕ)) (number : ℕ)
+pub talk_ends : {form : AnswerForm} (begins : ℕ) (first s : State) (opened buffered part : List ℕ) (had mid left held wrote wrote' holds : Option (List ℕ)) (number : ℕ)
     (flushed : Result (Unit {0}) LiveError) (wrote_all : Result (Unit {0}) DriveError)
-    → Talked form begins first opened had mid held wrote number s hand → Consumes mid left part → has_feed (hand ++ part) ≡ false → IsAtEnd left
-    → Appends wrote wrote' (answer form s number (first_line_of (hand ++ part))) → Keeps wrote' holds → IsWriteResult flushed wrote_all → IsOkUnless wrote_all errors.Write
+    → Talked form begins first opened had mid held wrote number s buffered → Consumes mid left part → has_feed (buffered ++ part) ≡ false → IsAtEnd left
+    → Appends wrote wrote' (answer form s number (first_line_of (buffered ++ part))) → Keeps wrote' holds → IsWriteResult flushed wrote_all → IsOkUnless wrote_all errors.Write
     → AnsweringEnded form begins first opened (streams had left held holds) flushed
-talk_ends {form = form} begins first s opened hand part had mid left held wrote wrote' holds number (Ok _) written k read free end wrote_it kept w f =
+talk_ends {form = form} begins first s opened buffered part had mid left held wrote wrote' holds number (Ok _) written k read free end wrote_it kept w f =
     let bytes_read = Consumes-then had mid left k.bytes_read part k.consumed read in
-    let text = ended_text begins first s opened hand part had mid left held wrote number k free in
+    let text = ended_text begins first s opened buffered part had mid left held wrote number k free in
     let all = Appends-Keeps held wrote' holds _ (Appends-trans held wrote wrote' k.front _ k.appended wrote_it) kept in
     (k.bytes_read ++ part, input_all had left (k.bytes_read ++ part) bytes_read end, bytes_read, rw text all, tt)
-talk_ends {form = form} begins first s opened hand part had mid left held wrote wrote' holds number (Err e) written k read free end wrote_it kept w f =
+talk_ends {form = form} begins first s opened buffered part had mid left held wrote wrote' holds number (Err e) written k read free end wrote_it kept w f =
     let bytes_read = Consumes-then had mid left k.bytes_read part k.consumed read in
-    let text = ended_text begins first s opened hand part had mid left held wrote number k free in
+    let text = ended_text begins first s opened buffered part had mid left held wrote number k free in
     let all = Appends-trans held wrote wrote' k.front _ k.appended wrote_it in
     let fault : drive_error_of e ≡ errors.Write = subst (λ r. IsOkUnless r errors.Write) w.0 f in
     (k.bytes_read ++ part, input_all had left (k.bytes_read ++ part) bytes_read end, tt, tt, rw (fault, text) (leaves_all held wrote' holds _ all kept))
 
 -- a line couldn't be taken or answered
-pub talk_fails : {form : AnswerForm} (begins : ℕ) (first s : State) (opened hand coming : List ℕ) (had mid left held wrote holds : Option (List ℕ)) (number : ℕ)
+pub talk_fails : {form : AnswerForm} (begins : ℕ) (first s : State) (opened buffered coming : List ℕ) (had mid left held wrote holds : Option (List ℕ))
+    (number : ℕ)
     (e : LiveError) (ended : Result (Unit {0}) LiveError)
-    → Talked form begins first opened had mid held wrote number s hand → IsInput mid coming
-    → LeavesText (drive_error_of e) wrote holds (answers_from form s number (lines_of (hand ++ coming))) → ended ≡ Err e → AnsweringEnded form begins first opened (streams had left held holds) ended
-talk_fails {form = form} begins first s opened hand coming had mid left held wrote holds number e ended k i f r =
+    → Talked form begins first opened had mid held wrote number s buffered → IsInput mid coming
+    → LeavesText (drive_error_of e) wrote holds (answers_from form s number (lines_of (buffered ++ coming))) → ended ≡ Err e → AnsweringEnded form begins first opened (streams had left held holds) ended
+talk_fails {form = form} begins first s opened buffered coming had mid left held wrote holds number e ended k i f r =
     rw r (
       k.bytes_read ++ coming,
       input_on had mid k.bytes_read coming k.consumed i,
       tt,
       tt,
-      leaves_on (drive_error_of e) held wrote holds k.front (answers_from form s number (lines_of (hand ++ coming))) _ k.whole k.appended (k.goes_on coming) f,
+      leaves_on (drive_error_of e) held wrote holds k.front (answers_from form s number (lines_of (buffered ++ coming))) _ k.whole k.appended (k.goes_on coming) f,
     )
 
 -- as many lines as can be numbered were answered
-pub talk_spent : {form : AnswerForm} (begins : ℕ) (first s : State) (opened hand : List ℕ) (had left held holds : Option (List ℕ)) (number : ℕ) (e : LiveError)
-    → Talked form begins first opened had left held holds number s hand → AnsweringEnded {T = Unit {0}} form begins first opened (streams had left held holds) (Err e)
-talk_spent {form = form} begins first s opened hand had left held holds number e k =
-    talk_fails begins first s opened hand (rest_of left) had left left held holds holds number e (Err e) k (rest_input left) (leaves_none (drive_error_of e) holds _) refl
+pub talk_spent : {form : AnswerForm} (begins : ℕ) (first s : State) (opened buffered : List ℕ) (had left held holds : Option (List ℕ)) (number : ℕ)
+    (e : LiveError)
+    → Talked form begins first opened had left held holds number s buffered → AnsweringEnded {T = Unit {0}} form begins first opened (streams had left held holds) (Err e)
+talk_spent {form = form} begins first s opened buffered had left held holds number e k =
+    talk_fails begins first s opened buffered (rest_of left) had left left held holds holds number e (Err e) k (rest_input left) (leaves_none (drive_error_of e) holds _) refl
 
-pub lines_answered : {form : AnswerForm} (begins : ℕ) (first s : State) (opened hand : List ℕ) (had left held holds : Option (List ℕ)) (number count : ℕ)
-    → Talked form begins first opened had left held holds number s hand → number ≡ count + begins → HasAnsweredLines form count begins first opened (streams had left held holds)
-lines_answered {form = form} begins first s opened hand had left held holds number count k e = record {
+pub lines_answered : {form : AnswerForm} (begins : ℕ) (first s : State) (opened buffered : List ℕ) (had left held holds : Option (List ℕ)) (number count : ℕ)
+    → Talked form begins first opened had left held holds number s buffered → number ≡ count + begins → HasAnsweredLines form count begins first opened (streams had left held holds)
+lines_answered {form = form} begins first s opened buffered had left held holds number count k e = record {
   bytes_read = k.bytes_read;
   front = k.taken;
-  rest = hand;
+  rest = buffered;
   consumed = k.consumed;
   parts = k.parts;
   lines = omega (arith, k.count, e);
@@ -369,35 +371,35 @@ lines_answered {form = form} begins first s opened hand had left held holds numb
 }
 
 -- a line couldn't be taken or answered: no loop over lines is spent then, and one over reads by as many bytes
-pub line_spends : {form : AnswerForm} (begins : ℕ) (first s : State) (opened hand part : List ℕ) (had mid left held wrote holds : Option (List ℕ)) (number : ℕ) (e : LiveError)
-    → Talked form begins first opened had mid held wrote number s hand → Consumes mid left part → IsLineReadingError part e → IsSpentAfterLines form begins first opened (streams had left held holds) e
-line_spends {form = form} begins first s opened hand part had mid left held wrote holds number (live.Reader fault) k read h = tt
-line_spends {form = form} begins first s opened hand part had mid left held wrote holds number live.Writer k read h = tt
-line_spends {form = form} begins first s opened hand part had mid left held wrote holds number live.Memory k read h = tt
-line_spends {form = form} begins first s opened hand part had mid left held wrote holds number live.LinesSpent k read h = absurd h
-line_spends {form = form} begins first s opened hand part had mid left held wrote holds number live.ReadsSpent k read h =
+pub line_spends : {form : AnswerForm} (begins : ℕ) (first s : State) (opened buffered part : List ℕ) (had mid left held wrote holds : Option (List ℕ)) (number : ℕ) (e : LiveError)
+    → Talked form begins first opened had mid held wrote number s buffered → Consumes mid left part → IsLineReadingError part e → IsSpentAfterLines form begins first opened (streams had left held holds) e
+line_spends {form = form} begins first s opened buffered part had mid left held wrote holds number (live.Reader fault) k read h = tt
+line_spends {form = form} begins first s opened buffered part had mid left held wrote holds number live.Writer k read h = tt
+line_spends {form = form} begins first s opened buffered part had mid left held wrote holds number live.Memory k read h = tt
+line_spends {form = form} begins first s opened buffered part had mid left held wrote holds number live.LinesSpent k read h = absurd h
+line_spends {form = form} begins first s opened buffered part had mid left held wrote holds number live.ReadsSpent k read h =
     let sizes = length-append k.bytes_read part in
     (k.bytes_read ++ part, Consumes-then had mid left k.bytes_read part k.consumed read, omega (arith, sizes, h))
 
 -- ---- one line
 
-pub untaken : (form : AnswerForm) (s : State) (number : ℕ) (hand bytes_read : List ℕ) (had left held holds : Option (List ℕ)) (e : DriveError)
-    → Consumes had left bytes_read → Keeps held holds → LineFailed form s number hand had held holds e
-untaken form s number hand bytes_read had left held holds e read kept =
+pub untaken : (form : AnswerForm) (s : State) (number : ℕ) (buffered bytes_read : List ℕ) (had left held holds : Option (List ℕ)) (e : DriveError)
+    → Consumes had left bytes_read → Keeps held holds → LineFailed form s number buffered had held holds e
+untaken form s number buffered bytes_read had left held holds e read kept =
     (bytes_read ++ rest_of left, input_on had left bytes_read (rest_of left) read (rest_input left), leaves_kept e held holds _ kept)
 
-pub unanswered : (form : AnswerForm) (s : State) (number : ℕ) (hand bytes_read : List ℕ) (had left held mid holds : Option (List ℕ)) (e : DriveError) (whole : Bool)
-    → Consumes had left bytes_read → whole ≡ has_feed (hand ++ bytes_read) → (whole ≡ false → IsAtEnd left) → Keeps held mid
-    → LeavesText e mid holds (answer form s number (first_line_of (hand ++ bytes_read))) → LineFailed form s number hand had held holds e
-unanswered form s number hand bytes_read had left held mid holds e true read feed end kept f = (
+pub unanswered : (form : AnswerForm) (s : State) (number : ℕ) (buffered bytes_read : List ℕ) (had left held mid holds : Option (List ℕ)) (e : DriveError) (whole : Bool)
+    → Consumes had left bytes_read → whole ≡ has_feed (buffered ++ bytes_read) → (whole ≡ false → IsAtEnd left) → Keeps held mid
+    → LeavesText e mid holds (answer form s number (first_line_of (buffered ++ bytes_read))) → LineFailed form s number buffered had held holds e
+unanswered form s number buffered bytes_read had left held mid holds e true read feed end kept f = (
   bytes_read ++ rest_of left,
   input_on had left bytes_read (rest_of left) read (rest_input left),
-  leaves_before e held mid holds _ kept (rw (answers_on form s number hand bytes_read (rest_of left) (sym feed)) (leaves_more e mid holds _ _ f)),
+  leaves_before e held mid holds _ kept (rw (answers_on form s number buffered bytes_read (rest_of left) (sym feed)) (leaves_more e mid holds _ _ f)),
 )
-unanswered form s number hand bytes_read had left held mid holds e false read feed end kept f = (
+unanswered form s number buffered bytes_read had left held mid holds e false read feed end kept f = (
   bytes_read,
   input_all had left bytes_read read (end refl),
-  leaves_before e held mid holds _ kept (rw (answers_last form s number (hand ++ bytes_read) (sym feed)) f),
+  leaves_before e held mid holds _ kept (rw (answers_last form s number (buffered ++ bytes_read) (sym feed)) f),
 )
 
 -- ---- the whole
@@ -429,7 +431,7 @@ pub live_unwritten : {form : AnswerForm} (how : Start) (e : DriveError) (had lef
 live_unwritten {form = form} how e had left held bytes_read read =
     live_failed how e had left held held (bytes_read ++ rest_of left) (input_on had left bytes_read (rest_of left) read (rest_input left)) (leaves_none e held _)
 
--- there are no lines behind the setup
+-- there are no lines after the setup
 pub not_long : (c : Configuration) (bytes_read : List ℕ) → with_setup_refusal (setup_of (first_line_of bytes_read)) ≡ Ok c → has_feed bytes_read ≡ false
     → SETUP_PREFIX_BYTES ≤ length bytes_read → ⊥
 not_long c bytes_read s free long =
@@ -484,9 +486,9 @@ reads_spend live.ReadsSpent bytes_read had left read h = λ s. (bytes_read, read
 
 -- ---- errors of what only writes
 
-pub written_told : {T : Type 0} (r : Result T LiveError) (written : Result T DriveError) → IsWriteResult r written → written ≡ drive_result_of r
-written_told (Ok x) written w = w
-written_told (Err e) written w = w.0
+pub written_is : {T : Type 0} (r : Result T LiveError) (written : Result T DriveError) → IsWriteResult r written → written ≡ drive_result_of r
+written_is (Ok x) written w = w
+written_is (Err e) written w = w.0
 
 -- what is known of the one's error is known of the other's
 pub written_err : {T : Type 0} (e : LiveError) (written : Result T DriveError) (P : DriveError → Type 0) → IsWriteResult (Err e) written → IfErr written P → P (drive_error_of e)

@@ -18,30 +18,32 @@ Keeps-then (Some a) (Some b) None h k = absurd k
 Keeps-then (Some a) (Some b) (Some c) h k = k ∙ h
 
 -- A line of a conversation that is being read, and the text that the writer holds. If the buffer had a line feed at first, nothing was read.
-pub record TakingAndWriting (most : ℕ) (hand : List ℕ) (had left held holds : Option (List ℕ)) (line : LinePrefix) (rest : List ℕ) (reads : ℕ) : Type 0 where
-  pub taking : Taking most hand had left line rest reads
+pub record TakingAndWriting (most : ℕ) (buffered : List ℕ) (had left held holds : Option (List ℕ)) (line : LinePrefix) (rest : List ℕ)
+    (reads : ℕ) : Type 0 where
+  pub taking : Taking most buffered had left line rest reads
   pub written : Keeps held holds
-  pub unread : has_feed hand ≡ true → reads ≡ 0
+  pub unread : has_feed buffered ≡ true → reads ≡ 0
 
 -- nothing was taken yet
-pub writes_first : (most : ℕ) (hand : List ℕ) (had held : Option (List ℕ)) (line : LinePrefix) → line ≡ prefix_of most []
-    → TakingAndWriting most hand had had held held line hand 0
-writes_first most hand had held line kept = record { taking = takes_first most hand had line kept; written = Keeps-same held; unread = λ feed. refl }
+pub writes_first : (most : ℕ) (buffered : List ℕ) (had held : Option (List ℕ)) (line : LinePrefix) → line ≡ prefix_of most []
+    → TakingAndWriting most buffered had had held held line buffered 0
+writes_first most buffered had held line kept = record { taking = takes_first most buffered had line kept; written = Keeps-same held; unread = λ feed. refl }
 
 -- no reads are spent if the buffer had a line feed
-pub never_spent : {P : Type 0} {most reads : ℕ} {hand rest : List ℕ} {had left held holds : Option (List ℕ)} {line : LinePrefix}
-    (s : TakingAndWriting most hand had left held holds line rest reads) → 0 < reads → has_feed hand ≡ true → P
+pub never_spent : {P : Type 0} {most reads : ℕ} {buffered rest : List ℕ} {had left held holds : Option (List ℕ)} {line : LinePrefix}
+    (s : TakingAndWriting most buffered had left held holds line rest reads) → 0 < reads → has_feed buffered ≡ true → P
 never_spent s asked feed = let none = s.unread feed in let clash : zero ≡ suc zero = omega (arith, none, asked) in cc
 
 -- the reader gave some
-pub writes_more : {most reads : ℕ} {hand rest : List ℕ} {had mid held wrote : Option (List ℕ)} {line : LinePrefix}
-    (s : TakingAndWriting most hand had mid held wrote line rest reads) (behind : List ℕ) (new : LinePrefix) (left holds : Option (List ℕ)) (part now : List ℕ)
-    → Begun most (hand ++ s.taking.bytes_read) new behind → Consumes mid left part → Keeps wrote holds → now ≡ part → 0 < length now
-    → TakingAndWriting most hand had left held holds new now (reads + 1)
-writes_more {most} {reads} {hand} {rest} {had} {mid} {held} {wrote} s behind new left holds part now begun read keeps same some = record {
+pub writes_more : {most reads : ℕ} {buffered rest : List ℕ} {had mid held wrote : Option (List ℕ)} {line : LinePrefix}
+    (s : TakingAndWriting most buffered had mid held wrote line rest reads) (behind : List ℕ) (new : LinePrefix) (left holds : Option (List ℕ))
+    (part now : List ℕ)
+    → Begun most (buffered ++ s.taking.bytes_read) new behind → Consumes mid left part → Keeps wrote holds → now ≡ part → 0 < length now
+    → TakingAndWriting most buffered had left held holds new now (reads + 1)
+writes_more {most} {reads} {buffered} {rest} {had} {mid} {held} {wrote} s behind new left holds part now begun read keeps same some = record {
   taking = takes_more s.taking behind new left part now begun read same some;
   written = Keeps-then held wrote holds s.written keeps;
-  unread = never_asked most hand s.taking.bytes_read behind new begun;
+  unread = never_asked most buffered s.taking.bytes_read behind new begun;
 }
 
 -- ---- errors

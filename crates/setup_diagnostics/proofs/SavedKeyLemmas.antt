@@ -1,5 +1,6 @@
 -- The first unknown member of an object of a saved state.
-use Rattle.std.proofs.Common.{◌≡◌, ℕ, ◌&&◌, not, Bool, true, false, cond, List, [], ◌∷◌, map, find, Option, Some, String, Global, string_bytes, refl, sym, ap, bytes_eq}
+use Rattle.std.proofs.Common.{◌≡◌, ℕ, ◌&&◌, not, Bool, true, false, cond, List, [], ◌∷◌, map, find, Option, Some, String, Global, string_bytes, refl, sym, ap}
+use Rattle.std.proofs.Common.{bytes_eq}
 use Rattle.std.specs.Prelude.{option_map}
 use Rattle.std.specs.List.{list_any}
 use Rattle.std.specs.Map.{keys_of}

@@ -1,5 +1,6 @@
 -- Why a document isn't JSON: what is wrong where reading stops, and what to do about it.
-use Rattle.std.specs.Prelude.{ℕ, ◌-◌, ◌+◌, zero, suc, ◌==◌, ◌&&◌, ◌||◌, Bool, true, false, not, List, [], ◌∷◌, ◌++◌, Option, Some, None, codes, decimal, drop, get_or, is_some, length, nat_eq, take, if◌then◌else◌}
+use Rattle.std.specs.Prelude.{ℕ, ◌-◌, ◌+◌, zero, suc, ◌==◌, ◌&&◌, ◌||◌, Bool, true, false, not, List, [], ◌∷◌, ◌++◌, Option, Some, None, codes, decimal, drop}
+use Rattle.std.specs.Prelude.{get_or, is_some, length, nat_eq, take, if◌then◌else◌}
 use Rattle.std.specs.Char.{is_ascii_whitespace}
 use Rattle.std.specs.List.{list_all, position, starts_with, suffix_len}
 use Rattle.std.specs.Str.{is_utf8}

@@ -1,5 +1,6 @@
 -- The explanation of a saved state that hasn't the members of its table.
-use Rattle.std.specs.Prelude.{ℕ, ◌≡◌, ◌&&◌, Bool, false, not, List, [], ◌++◌, Option, Some, None, codes, decimal, find, is_none, option_and_then, option_map, unwrap_or}
+use Rattle.std.specs.Prelude.{ℕ, ◌≡◌, ◌&&◌, Bool, false, not, List, [], ◌++◌, Option, Some, None, codes, decimal, find, is_none, option_and_then, option_map}
+use Rattle.std.specs.Prelude.{unwrap_or}
 use Rattle.serde_json.specs.Data.{Data, Members}
 use Rattle.serde_json.specs.Find.{as_object, at, get}
 use Rattle.setup_reader.specs.JsonTree.{◌>=>◌}

@@ -1,7 +1,8 @@
 //! Cycles of objects: each object is linked to the next one, and the last object to the first.
 
 ghost use Rattle.std.specs.Prelude.{◌≡◌, ◌++◌, OnOk, map, string_bytes, take};
-ghost use Rattle.setup_diagnostics.specs.Cycles.{cycle_text, dependency_part, dependency_cycle_text, first_text, more_text, object_text, objects_text, parent_cycle_text};
+ghost use Rattle.setup_diagnostics.specs.Cycles.{cycle_text, dependency_part, dependency_cycle_text, first_text, more_text, object_text, objects_text};
+ghost use Rattle.setup_diagnostics.specs.Cycles.{parent_cycle_text};
 
 use crate::line::{Line, Pushed};
 use crate::places::part_words;

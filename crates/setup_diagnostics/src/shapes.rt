@@ -10,7 +10,8 @@ ghost use Rattle.serde_json.specs.Find.{as_array, get};
 ghost use Rattle.serde_json.specs.View.{items_view};
 ghost use Rattle.setup_reader.specs.Places.{value_at};
 ghost use Rattle.setup_diagnostics.specs.Feeds.{has_line_feed};
-ghost use Rattle.setup_diagnostics.specs.Shapes.{nth_member_name, member_name_at, first_wrong_text, kind_text, missing_text, unknown_name_text, Appends, IsItemFault, IsKindFault, IsMemberFault, IsShapeFault, IsShapeText, IsWrongMember};
+ghost use Rattle.setup_diagnostics.specs.Shapes.{nth_member_name, member_name_at, first_wrong_text, kind_text, missing_text, unknown_name_text, Appends};
+ghost use Rattle.setup_diagnostics.specs.Shapes.{IsItemFault, IsKindFault, IsMemberFault, IsShapeFault, IsShapeText, IsWrongMember};
 ghost use Rattle.setup_diagnostics.specs.Excerpts.{quotation};
 
 use crate::kinds::{kind_words, push_shown};

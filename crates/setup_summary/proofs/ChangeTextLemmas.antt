@@ -33,11 +33,11 @@ pub changed_is : (c : Configuration) (saved : Saved) → change_lines_among c (o
 changed_is c saved =
     text_from c saved 0 (objects_of c) (λ i o at. let start : 0 + i ≡ i = omega arith in ap (name_of c) start ∙ name_is c i o at)
 
--- what one push appended is the text that it was handed, or nothing where it failed
-pub pushed_all : {T E : Type 0} (r : Result T E) (was now handed text : List ℕ) → handed ≡ text → now ≡ cond (is_ok r) (was ++ handed) was
+-- one push appended the text that it got, or nothing if it failed
+pub pushed_all : {T E : Type 0} (r : Result T E) (was now pushed text : List ℕ) → pushed ≡ text → now ≡ cond (is_ok r) (was ++ pushed) was
     → OnOk r (now ≡ was ++ text)
-pushed_all (Ok x) was now handed text same is = is ∙ ap (λ l. was ++ l) same
-pushed_all (Err e) was now handed text same is = tt
+pushed_all (Ok x) was now pushed text same is = is ∙ ap (λ l. was ++ l) same
+pushed_all (Err e) was now pushed text same is = tt
 
 -- ---- one object more
 

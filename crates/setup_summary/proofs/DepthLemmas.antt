@@ -194,7 +194,7 @@ longest_by_depths links depths has =
     let most = greatest_above depths o in
     shallow_longer links (suc (depth_at depths o)) k o (omega (arith, most, above)) (has.each o l).none_longer)))
 
--- a chain that leads back goes on as far as is asked
+-- a chain that leads back continues as far as is asked
 pub longest_in_cycle : (links : List (List ℕ)) → has_cycle links ≡ true → length links ≡ longest_chain links
 unfolding has_cycle longest_chain
 longest_in_cycle links e = sym (greatest_top (has_chain links) (length links) e)

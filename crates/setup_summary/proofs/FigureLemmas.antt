@@ -106,7 +106,7 @@ all_by : (limit running : ℕ) (b : Bool) → (limit == 0) ≡ b → limit ≢ 0
 all_by limit running true e some past = absurd (some (eqb-true limit 0 e))
 all_by limit running false e some past = rw (e, past) refl
 
--- so many of the objects behind the hosts are out
+-- this many of the objects after the hosts are out
 abbrev pub AreOut : Configuration → List (Option ObjectDiff) → ℕ → Type 0
 AreOut c kept running = running ≡ count_by is_running (drop (host_count c) kept)
 

@@ -21,7 +21,7 @@ use Rattle.ticket_steps.specs.Happenings as event
 use Rattle.ticket_steps.specs.History.{entry, of, replay, IsLegal}
 use Rattle.ticket_steps.specs.Lawful.{IsLawful}
 use Rattle.ticket_steps.specs.Seats.{Holds, holder_count_of, is_present, tickets_of, holders, seat_after_split, other_seat, waiting_seat, holding_seat}
-use Rattle.ticket_steps.specs.Seats.{posted_seat, seat_after_turn, gone_seat}
+use Rattle.ticket_steps.specs.Seats.{posted_seat, seat_after_leave, gone_seat}
 use Rattle.ticket_steps.specs.Sums.{occurrences}
 use Rattle.ticket_steps.proofs.CoreLemmas.{few_tickets}
 use Rattle.ticket_steps.proofs.Histories.{legal-last-reply, lawful_entry, lawful_refusal}
@@ -313,7 +313,7 @@ module _ {K C R : Type 0} (k : Ghosts K C R) (m : TableMoment K k.State C R) (is
       → IsOneEvent k m h (table_after k m (leave posted ticket book))
   leave_to posted ticket book h b holder carries later move shows =
       let served : m.core.served ≡ ticket = sym ((lawful.each m.id m.me.0.seat seat_here).holder ticket holder) in
-      let p : CoreSeat = seat_after_turn m.me.0.seat in
+      let p : CoreSeat = seat_after_leave m.me.0.seat in
       let here : put_back m.table.homes m.me.1 ≡ set m.table.homes 0 (some (Some book)) = ap (put_back m.table.homes) carries in
       seat_event h (after_leave m.core m.id m.me.0.seat b) _ _ (view_after k m (leave posted ticket book)) move
       (subst (λ (n : ℕ). AreWordsOf m.core.next (m.core.served + 1) (k.board b.state) (set m.table.words (grant_word (n + 1)) (n + 1))) served

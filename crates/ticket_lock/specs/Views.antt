@@ -5,7 +5,7 @@ use Rattle.ticket_steps.specs.declared.books.Entry.{Entry}
 use Rattle.ticket_steps.specs.declared.books.Kept.{Ghosts}
 use Rattle.ticket_steps.specs.declared.seats.CoreSeat.{CoreSeat}
 use Rattle.ticket_steps.specs.History.{of}
-use Rattle.ticket_steps.specs.Seats.{fresh_seat, gone_seat, seat_after_split, other_seat, waiting_seat, holding_seat, posted_seat, seat_after_turn}
+use Rattle.ticket_steps.specs.Seats.{fresh_seat, gone_seat, seat_after_split, other_seat, waiting_seat, holding_seat, posted_seat, seat_after_leave}
 use Rattle.ticket_steps.specs.Seats.{gathered_seat}
 use Rattle.ticket_steps.specs.Sums.{occurrences, numbers_from}
 use Rattle.ticket_lock.specs.declared.views.Start.{Start}
@@ -83,4 +83,4 @@ module _ {K C R : Type 0} where
 
     -- the view of a holder that has put this book back and left
     abbrev pub view_after_leave : View K C R → K → View K C R
-    view_after_leave v book = view v.start (seat_after_turn v.seat) (k.history book) 0
+    view_after_leave v book = view v.start (seat_after_leave v.seat) (k.history book) 0

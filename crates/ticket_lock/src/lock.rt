@@ -285,7 +285,7 @@ impl<K: Kept> TicketLock<K> {
         hold
     }
 
-    /// Puts the book back and ends the turn. If the hold has posted, the book must be the one that it posted.
+    /// Puts the book back and ends the hold. If the hold has posted, the book must be the one that it posted.
     /// Otherwise it must be the one that was handed out, with one more entry or one more refusal. The entry
     /// is of the hold's own number, and its call is not posted.
     pub fn leave(&self, hold: Hold<K>, book: K) -> Seat<K>

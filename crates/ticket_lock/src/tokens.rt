@@ -55,7 +55,7 @@ pub struct Turn<K: Kept> {
     ghost stale: { table_seat.me.0.seat.fresh ≡ false },
 }
 
-/// A caller whose turn it is: it holds the book. It posts its call (`TicketLock::post`), if the board is to
+/// A caller whose turn has come: it holds the book. It posts its call (`TicketLock::post`), if the board is to
 /// show it, and leaves.
 ///
 /// It is not `Drop`, so code that doesn't pass a hold to `TicketLock::leave` doesn't compile. The lock needs

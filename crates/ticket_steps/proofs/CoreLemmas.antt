@@ -14,7 +14,7 @@ use Rattle.ticket_steps.specs.CoreStates.{CoreState, core_state, opening_core}
 use Rattle.ticket_steps.specs.Cores.{core_state_of}
 use Rattle.ticket_steps.specs.Happenings.{split, drew, waited, held, posted, post_refused, left_posted, recorded, refused, gathered, with_seats, Moves}
 use Rattle.ticket_steps.specs.Lawful.{IsLawful}
-use Rattle.ticket_steps.specs.Seats.{Holds, seat, seat_after_split, other_seat, waiting_seat, holding_seat, posted_seat, seat_after_turn, gathered_seat}
+use Rattle.ticket_steps.specs.Seats.{Holds, seat, seat_after_split, other_seat, waiting_seat, holding_seat, posted_seat, seat_after_leave, gathered_seat}
 use Rattle.ticket_steps.specs.Seats.{gone_seat}
 use Rattle.ticket_steps.specs.Sums.{numbers_from}
 use Rattle.ticket_steps.proofs.FaultLemmas.{read_is}
@@ -37,7 +37,7 @@ few_tickets next left numbers draws supply bounded small =
     let a : numbers * draws ≤ 1024 * draws = mul-le-mul_right draws bounded in
     omega arith
 
--- so few turns have ended
+-- so few calls have ended
 pub few_served : {S C R : Type 0} (numbers draws : ℕ) (c : CoreState S C R) → IsLawful numbers draws c → numbers ≤ 1024 → draws < 4294967296
     → c.served ≤ 4398046510080
 few_served numbers draws c l bounded small =
@@ -111,18 +111,19 @@ module _ {K C R : Type 0} (k : Ghosts K C R) (draws : ℕ) (b : CoreState k.Stat
   post_refused_moves ticket w book holds is book_is =
       (i, p, ticket, (at, called, holds), λ j. core_state b.next b.served (set b.seats i (is j)) (book_is j))
 
-  pub left_posted_moves : (ticket : ℕ) (w : CoreSeat) → p.phase ≡ Posted ticket → w ≡ seat_after_turn p
+  pub left_posted_moves : (ticket : ℕ) (w : CoreSeat) → p.phase ≡ Posted ticket → w ≡ seat_after_leave p
       → Moves k draws b (left_posted own) (core_state b.next (b.served + 1) (set b.seats i w) b.book)
   left_posted_moves ticket w posts is =
       (i, p, ticket, (at, called, posts), λ j. core_state b.next (b.served + 1) (set b.seats i (is j)) b.book)
 
-  pub recorded_moves : (ticket : ℕ) (w : CoreSeat) (call : C) (reply : R) (book : BookState k.State C R) → p.phase ≡ Holding ticket → w ≡ seat_after_turn p
+  pub recorded_moves : (ticket : ℕ) (w : CoreSeat) (call : C) (reply : R) (book : BookState k.State C R) → p.phase ≡ Holding ticket → w ≡ seat_after_leave p
       → reply ≡ (k.step b.book.state call).1 → book ≡ with_entry k.step own call b.book
       → k.posts_at b.book.state call ≡ None → Moves k draws b (recorded own call reply) (core_state b.next (b.served + 1) (set b.seats i w) book)
   recorded_moves ticket w call reply book holds is answer book_is unplaced =
       (i, p, ticket, (at, called, holds), answer, (λ j. core_state b.next (b.served + 1) (set b.seats i (is j)) (book_is j)), unplaced)
 
-  pub refused_moves : (ticket : ℕ) (w : CoreSeat) (book : BookState k.State C R) → p.phase ≡ Holding ticket → w ≡ seat_after_turn p → book ≡ with_refusal b.book
+  pub refused_moves : (ticket : ℕ) (w : CoreSeat) (book : BookState k.State C R) → p.phase ≡ Holding ticket → w ≡ seat_after_leave p
+      → book ≡ with_refusal b.book
       → Moves k draws b (refused own) (core_state b.next (b.served + 1) (set b.seats i w) book)
   refused_moves ticket w book holds is book_is = (i, p, ticket, (at, called, holds), λ j. core_state b.next (b.served + 1) (set b.seats i (is j)) (book_is j))
 

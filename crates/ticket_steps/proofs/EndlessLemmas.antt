@@ -11,7 +11,7 @@ use Rattle.ticket_steps.specs.declared.seats.Phase.TheVariants.{Waiting, Holding
 use Rattle.ticket_steps.specs.CoreStates.{CoreState}
 use Rattle.ticket_steps.specs.Endless.{Endless, IsEndless, IsFair, HoldsLater}
 use Rattle.ticket_steps.specs.Happenings.{Happening, split, drew, waited, held, posted, post_refused, left_posted, recorded, refused, glanced, gathered}
-use Rattle.ticket_steps.specs.Happenings.{turns_ended, turns_ended_by, IsOfEvent, Moves}
+use Rattle.ticket_steps.specs.Happenings.{calls_ended, calls_ended_by, IsOfEvent, Moves}
 use Rattle.ticket_steps.specs.Lawful.{IsLawful}
 use Rattle.ticket_steps.specs.Seats.{IsSeatAt, Holds, is_present, tickets_of, holding_seat}
 use Rattle.ticket_steps.proofs.LawfulSteps.{lawful_opened, moves_lawful}
@@ -19,18 +19,18 @@ use Rattle.ticket_steps.proofs.Lists.{at_same, at_within, set_here}
 use Rattle.ticket_steps.proofs.ScheduleLemmas.{leads_count}
 use Rattle.ticket_steps.proofs.SeatLemmas.{named_once, served_seat, waits_in_line, waits_or_holds}
 use Rattle.ticket_steps.proofs.SumLemmas.{one_if}
-use Rattle.ticket_steps.proofs.TurnLemmas.{moves_keep, drawn, look_holds}
+use Rattle.ticket_steps.proofs.RecordedCallLemmas.{moves_keep, drawn, look_holds}
 
 -- the seat with this number waits with this ticket, or holds with it
 abbrev Waits : List CoreSeat → ℕ → ℕ → Type 0
 Waits seats own t = (i : ℕ) × (p : CoreSeat) × IsSeatAt seats i own (Waiting t) p
 
-abbrev HasTurn : List CoreSeat → ℕ → ℕ → Type 0
-HasTurn seats own t = (i : ℕ) × (p : CoreSeat) × (get_elem? seats i ≡ some p) × (p.own ≡ own) × Holds t p.phase
+abbrev HoldsTicket : List CoreSeat → ℕ → ℕ → Type 0
+HoldsTicket seats own t = (i : ℕ) × (p : CoreSeat) × (get_elem? seats i ≡ some p) × (p.own ≡ own) × Holds t p.phase
 
 module _ {K C R : Type 0} (k : Ghosts K C R) (numbers draws : ℕ) (b c : CoreState k.State C R) (l : IsLawful numbers draws b) where
-  -- a leave ends a turn
-  leave_ends : (own : ℕ) (call : Option C) (h : Happening C R) → IsOfEvent (Leave own call) h → turns_ended (h ∷ []) ≡ 1
+  -- a leave ends a call
+  leave_ends : (own : ℕ) (call : Option C) (h : Happening C R) → IsOfEvent (Leave own call) h → calls_ended (h ∷ []) ≡ 1
   leave_ends own call (split n count) is = absurd (cc)
   leave_ends own call (drew n ticket) is = absurd (cc)
   leave_ends own call (waited n) is = absurd (cc)
@@ -56,7 +56,7 @@ module _ {K C R : Type 0} (k : Ghosts K C R) (numbers draws : ℕ) (b c : CoreSt
           apart (sym st.2 ∙ (ap (λ (s : CoreSeat). s.phase) is ∙ waits.2.2)))),
     )
 
-    still : (h : Happening C R) → Moves k draws b h c → turns_ended_by own (h ∷ []) ≡ 0
+    still : (h : Happening C R) → Moves k draws b h c → calls_ended_by own (h ∷ []) ≡ 0
     still (split n count) m = refl
     still (drew n ticket) m = refl
     still (waited n) m = refl
@@ -69,20 +69,20 @@ module _ {K C R : Type 0} (k : Ghosts K C R) (numbers draws : ℕ) (b c : CoreSt
     still (glanced n place word) m = refl
     still (gathered n other) m = refl
 
-    -- a seat that waits goes on waiting, or holds
-    waits_on : (h : Happening C R) → Moves k draws b h c → Waits c.seats own t ⊎ HasTurn c.seats own t
+    -- a seat that waits continues waiting, or holds
+    waits_on : (h : Happening C R) → Moves k draws b h c → Waits c.seats own t ⊎ HoldsTicket c.seats own t
     waits_on h m =
         let has = moves_keep k draws own t b c h m (still h m) (waits.0, waits.1, waits.2.0, waits.2.1, ap tickets_of waits.2.2) in
         ⊎_elim (λ (w : has.1.phase ≡ Waiting t). inl (has.0, has.1, (has.2, has.3, w)))
         (λ (w : Holds t has.1.phase). inr (has.0, has.1, has.2, has.3, w)) (waits_or_holds t has.1.phase has.4)
 
   -- a seat that looks while its ticket is served holds
-  looks_and_holds : (own : ℕ) (h : Happening C R) → Waits b.seats own b.served → IsOfEvent (Look own) h → Moves k draws b h c → HasTurn c.seats own b.served
+  looks_and_holds : (own : ℕ) (h : Happening C R) → Waits b.seats own b.served → IsOfEvent (Look own) h → Moves k draws b h c → HoldsTicket c.seats own b.served
   looks_and_holds own h waits is m =
       let same = look_holds k draws numbers b l waits.0 own waits.1 waits.2 h c is m in
       let look = subst (λ (x : Happening C R). Moves k draws b x c) same m in
       let w = holding_seat b.served look.1 in
-      subst (λ (z : CoreState k.State C R). HasTurn z.seats own b.served) (sym look.3)
+      subst (λ (z : CoreState k.State C R). HoldsTicket z.seats own b.served) (sym look.3)
       (look.0, w, set_here b.seats look.0 w (at_within b.seats look.0 look.1 look.2.0), look.2.1, (refl, refl))
 
 module _ {K C R : Type 0} (k : Ghosts K C R) (s : Endless k.State C R) (is : IsEndless k s) where
@@ -99,38 +99,38 @@ module _ {K C R : Type 0} (k : Ghosts K C R) (s : Endless k.State C R) (is : IsE
   abbrev WaitsAt : ℕ → ℕ → ℕ → Type 0
   WaitsAt n own t = Waits (s.state n).seats own t
 
-  -- after this time, the seat has the turn
-  abbrev TurnAfter : ℕ → ℕ → ℕ → Type 0
-  TurnAfter n own t = (m : ℕ) × (n < m) × HasTurn (s.state m).seats own t
+  -- after this time, the seat holds
+  abbrev HoldsAfter : ℕ → ℕ → ℕ → Type 0
+  HoldsAfter n own t = (m : ℕ) × (n < m) × HoldsTicket (s.state m).seats own t
 
-  turns_at : (n : ℕ) → served (n + 1) ≡ served n + turns_ended (s.happening n ∷ [])
-  turns_at n = (leads_count k s.draws (s.state n) (s.state (n + 1)) (s.happening n ∷ []) (s.state (n + 1), is.leads n, refl)).1
+  calls_ended_at : (n : ℕ) → served (n + 1) ≡ served n + calls_ended (s.happening n ∷ [])
+  calls_ended_at n = (leads_count k s.draws (s.state n) (s.state (n + 1)) (s.happening n ∷ []) (s.state (n + 1), is.leads n, refl)).1
 
   served_up : (d n : ℕ) → served n ≤ served (n + d)
   served_up zero n = let e : n ≡ n + zero = omega arith in omega (arith, ap served e)
-  served_up (suc d) n = let e : n + d + 1 ≡ n + suc d = omega arith in omega (arith, served_up d n, turns_at (n + d), ap served e)
+  served_up (suc d) n = let e : n + d + 1 ≡ n + suc d = omega arith in omega (arith, served_up d n, calls_ended_at (n + d), ap served e)
 
-  -- until some time it waits, or it has had the turn
-  until : (d n own t : ℕ) → WaitsAt n own t → WaitsAt (n + d) own t ⊎ TurnAfter n own t
+  -- until some time it waits, or it has held
+  until : (d n own t : ℕ) → WaitsAt n own t → WaitsAt (n + d) own t ⊎ HoldsAfter n own t
   until zero n own t waits = let e : n ≡ n + zero = omega arith in inl (subst (λ (m : ℕ). WaitsAt m own t) e waits)
   until (suc d) n own t waits = let e : n + d + 1 ≡ n + suc d = omega arith in ⊎_elim
       (λ (w : WaitsAt (n + d) own t). ⊎_elim
       (λ (next : WaitsAt (n + d + 1) own t). inl (subst (λ (m : ℕ). WaitsAt m own t) e next))
-      (λ (turn : HasTurn (s.state (n + d + 1)).seats own t). inr (n + d + 1, omega arith, turn))
+      (λ (holding : HoldsTicket (s.state (n + d + 1)).seats own t). inr (n + d + 1, omega arith, holding))
       (waits_on k s.numbers s.draws (s.state (n + d)) (s.state (n + d + 1)) (lawful_at (n + d)) own t w (s.happening (n + d)) (is.leads (n + d))))
-      (λ (turn : TurnAfter n own t). inr turn) (until d n own t waits)
+      (λ (holding : HoldsAfter n own t). inr holding) (until d n own t waits)
 
   -- the same for a later time
-  until_time : (m n own t : ℕ) → n ≤ m → WaitsAt n own t → WaitsAt m own t ⊎ TurnAfter n own t
+  until_time : (m n own t : ℕ) → n ≤ m → WaitsAt n own t → WaitsAt m own t ⊎ HoldsAfter n own t
   until_time m n own t le waits =
-      let e : n + (m - n) ≡ m = omega (arith, le) in subst (λ (x : ℕ). WaitsAt x own t ⊎ TurnAfter n own t) e (until (m - n) n own t waits)
+      let e : n + (m - n) ≡ m = omega (arith, le) in subst (λ (x : ℕ). WaitsAt x own t ⊎ HoldsAfter n own t) e (until (m - n) n own t waits)
 
   served_later : (m n : ℕ) → n ≤ m → served n ≤ served m
   served_later m n le = let e : n + (m - n) ≡ m = omega (arith, le) in omega (arith, served_up (m - n) n, ap served e)
 
   module _ (fair : IsFair s) where
     -- the seat that is served comes to hold
-    served_holds : (n own t : ℕ) → t ≡ served n → WaitsAt n own t → TurnAfter n own t
+    served_holds : (n own t : ℕ) → t ≡ served n → WaitsAt n own t → HoldsAfter n own t
     served_holds n own t first waits =
         let look = fair.looks n waits.0 own t waits.1 waits.2 in
         let m = look.0 in
@@ -141,35 +141,35 @@ module _ {K C R : Type 0} (k : Ghosts K C R) (s : Endless k.State C R) (is : IsE
           served_later m n look.1,
           waits_in_line s.numbers s.draws (s.state m) (lawful_at m) w.0 t w.1 w.2.0 w.2.2,
         ) in
-        let turn = looks_and_holds k s.numbers s.draws (s.state m) (s.state (m + 1)) (lawful_at m) own (s.happening m)
+        let holding = looks_and_holds k s.numbers s.draws (s.state m) (s.state (m + 1)) (lawful_at m) own (s.happening m)
         (subst (λ (x : ℕ). WaitsAt m own x) now w) look.2 (is.leads m) in
-        (m + 1, omega (arith, look.1), subst (λ (x : ℕ). HasTurn (s.state (m + 1)).seats own x) (sym now) turn))
-        (λ (turn : TurnAfter n own t). turn) (until_time m n own t look.1 waits)
+        (m + 1, omega (arith, look.1), subst (λ (x : ℕ). HoldsTicket (s.state (m + 1)).seats own x) (sym now) holding))
+        (λ (holding : HoldsAfter n own t). holding) (until_time m n own t look.1 waits)
 
-    -- some time after this one, the turn that is served has ended, if a seat waits
-    turn_ends : (n own t : ℕ) → WaitsAt n own t → (m : ℕ) × (n < m) × (served n < served m)
-    turn_ends n own t waits =
+    -- some time after this one, the call whose ticket is served has ended, if a seat waits
+    call_ends : (n own t : ℕ) → WaitsAt n own t → (m : ℕ) × (n < m) × (served n < served m)
+    call_ends n own t waits =
         let first = served_seat s.numbers s.draws (s.state n) (lawful_at n) waits.0 t waits.1 waits.2.0 waits.2.2 in
         let v = served n in
-        let turn : (m : ℕ) × (n ≤ m) × HasTurn (s.state m).seats first.1.own v = ⊎_elim
+        let holding : (m : ℕ) × (n ≤ m) × HoldsTicket (s.state m).seats first.1.own v = ⊎_elim
         (λ (w : first.1.phase ≡ Waiting v).
         let found = served_holds n first.1.own v refl (first.0, first.1, (first.2, refl, w)) in (found.0, omega (arith, found.1), found.2))
         (λ (h : Holds v first.1.phase). (n, omega arith, (first.0, first.1, first.2, refl, h))) (waits_or_holds v first.1.phase first.3) in
-        let leave = fair.leaves turn.0 turn.2.0 v turn.2.1 turn.2.2 turn.2.4 in
+        let leave = fair.leaves holding.0 holding.2.0 v holding.2.1 holding.2.2 holding.2.4 in
         let m = leave.0 in
-        let ended = leave_ends k s.numbers s.draws (s.state m) (s.state (m + 1)) (lawful_at m) turn.2.1.own leave.1 (s.happening m) leave.3 in
-        (m + 1, omega (arith, turn.1, leave.2), omega (arith, turns_at m, ended, served_later m n (omega (arith, turn.1, leave.2))))
+        let ended = leave_ends k s.numbers s.draws (s.state m) (s.state (m + 1)) (lawful_at m) holding.2.1.own leave.1 (s.happening m) leave.3 in
+        (m + 1, omega (arith, holding.1, leave.2), omega (arith, calls_ended_at m, ended, served_later m n (omega (arith, holding.1, leave.2))))
 
-    -- a seat comes to hold, by the number of turns before its own
-    comes_to_hold : (d n own t : ℕ) → t ≤ served n + d → WaitsAt n own t → TurnAfter n own t
+    -- a seat comes to hold, by the number of calls before its own
+    comes_to_hold : (d n own t : ℕ) → t ≤ served n + d → WaitsAt n own t → HoldsAfter n own t
     comes_to_hold zero n own t le waits =
         let line = waits_in_line s.numbers s.draws (s.state n) (lawful_at n) waits.0 t waits.1 waits.2.0 waits.2.2 in
         served_holds n own t (omega (arith, le, line)) waits
     comes_to_hold (suc d) n own t le waits =
-        let ended = turn_ends n own t waits in
+        let ended = call_ends n own t waits in
         ⊎_elim (λ (w : WaitsAt ended.0 own t).
         let found = comes_to_hold d ended.0 own t (omega (arith, le, ended.2)) w in (found.0, omega (arith, found.1, ended.1), found.2))
-        (λ (turn : TurnAfter n own t). turn) (until_time ended.0 n own t (omega (arith, ended.1)) waits)
+        (λ (holding : HoldsAfter n own t). holding) (until_time ended.0 n own t (omega (arith, ended.1)) waits)
 
     pub drawn_holds : (n own t : ℕ) → s.happening n ≡ drew own t → HoldsLater s n own t
     drawn_holds n own t is_draw =

@@ -13,13 +13,15 @@ use Rattle.ticket_steps.specs.Happenings.{with_seats, after_post, after_leave, M
 use Rattle.ticket_steps.specs.History.{entry}
 use Rattle.ticket_steps.specs.Lawful.{IsSeat, IsLawful, spare_seats}
 use Rattle.ticket_steps.specs.Seats.{tickets_of, is_present, poster_count_of, fresh_seat, gone_seat, seat_after_split, other_seat, waiting_seat, holding_seat}
-use Rattle.ticket_steps.specs.Seats.{posted_seat, seat_after_turn, gathered_seat}
+use Rattle.ticket_steps.specs.Seats.{posted_seat, seat_after_leave, gathered_seat}
 use Rattle.ticket_steps.specs.Seats.{Holds, IsSeatAt}
 use Rattle.ticket_steps.specs.Sums.{total, occurrences, once_below, numbers_from}
 use Rattle.ticket_steps.proofs.Lists.{at_set, at_snoc, at_same, set_else, at_within}
-use Rattle.ticket_steps.proofs.SeatLemmas.{tickets, queued, ticket_count, posts, tickets_idle, tickets_waiting, tickets_holding, holding_holds, posted_holds, holder_there}
+use Rattle.ticket_steps.proofs.SeatLemmas.{tickets, queued, ticket_count, posts, tickets_idle, tickets_waiting, tickets_holding, holding_holds, posted_holds}
+use Rattle.ticket_steps.proofs.SeatLemmas.{holder_there}
 use Rattle.ticket_steps.proofs.SeatLemmas.{same_ticket, sole}
-use Rattle.ticket_steps.proofs.SumLemmas.{total-set, total-append, occurrences-same, occurrences-append, occurrences-take-drop, take-numbers_from, drop-numbers_from}
+use Rattle.ticket_steps.proofs.SumLemmas.{total-set, total-append, occurrences-same, occurrences-append, occurrences-take-drop, take-numbers_from}
+use Rattle.ticket_steps.proofs.SumLemmas.{drop-numbers_from}
 use Rattle.ticket_steps.proofs.SumLemmas.{length-numbers_from}
 use Rattle.ticket_steps.proofs.SumLemmas.{numbers_from_first, numbers_from_below, below_no, below_more}
 
@@ -105,7 +107,7 @@ module _ {S C R : Type 0} (numbers draws : ℕ) where
             omega (arith, l.places, sums spare_seats, spare_p, xs, ys, length-append (set b.seats i x) (y ∷ []), length-set b.seats i x, at_within b.seats i p at);
       }
 
-  -- one seat goes on to another phase, with its numbers and its calls; what the book takes in, it has posted
+  -- one seat continues to another phase, with its numbers and its calls; what the book takes in, it has posted
   lawful_phase : (b : CoreState S C R) (next i : ℕ) (p w : CoreSeat) (book : BookState S C R) → IsLawful numbers draws b → get_elem? b.seats i ≡ some p
       → IsSeat draws b.served w → ((t : ℕ) → tickets t w + once_below t b.next ≡ tickets t p + once_below t next)
       → next + queued p ≡ b.next + queued w → w.numbers ≡ p.numbers → w.calls ≡ p.calls → next + w.left ≤ b.next + p.left → spare_seats w ≤ spare_seats p
@@ -171,7 +173,7 @@ module _ {S C R : Type 0} (numbers draws : ℕ) where
       let has : (k : ℕ) → occurrences k (tickets_of p.phase) ≡ occurrences k (b.served ∷ []) =
       λ k. tickets_holding k t p holder ∙ ap (λ (n : ℕ). occurrences k (n ∷ [])) served in
       let mine : occurrences b.served (tickets_of p.phase) ≡ 1 = has b.served ∙ occurrences-same b.served [] in
-      let w : CoreSeat = seat_after_turn p in
+      let w : CoreSeat = seat_after_leave p in
       let sums : (g : CoreSeat → ℕ) → total g (set b.seats i w) + g p ≡ total g b.seats + g w = λ g. total-set g b.seats i p w at in record {
         each = each_set draws b.served (b.served + 1) b.seats i w record {
           holder = λ t e. absurd (omega (arith, e.0));

@@ -9,6 +9,6 @@ pub mod SeatLemmas
 pub mod FaultLemmas
 pub mod LawfulSteps
 pub mod ScheduleLemmas
-pub mod TurnLemmas
+pub mod RecordedCallLemmas
 pub mod EndlessLemmas
 pub mod OriginLemmas

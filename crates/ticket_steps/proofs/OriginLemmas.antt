@@ -1,5 +1,6 @@
--- Each entry of a schedule is the call of a turn: the seat that recorded it drew before, and hadn't left since.
-use Rattle.std.proofs.Common.{◌≡◌, ◌≢◌, ◌⊎◌, ℕ, zero, suc, ◌+◌, ◌<◌, List, [], ◌∷◌, ◌++◌, length, set, sym, refl, ap, ◌∙◌, subst, arith, append_assoc, inl, inr, ⊎_elim}
+-- Each entry of a schedule is that of a recorded call: its seat drew before, and hadn't left since.
+use Rattle.std.proofs.Common.{◌≡◌, ◌≢◌, ◌⊎◌, ℕ, zero, suc, ◌+◌, ◌<◌, List, [], ◌∷◌, ◌++◌, length, set, sym, refl, ap, ◌∙◌, subst, arith, append_assoc, inl, inr}
+use Rattle.std.proofs.Common.{⊎_elim}
 use Rattle.std.proofs.Common.{true, ◌==◌, ne_eqb, length-append}
 use Rattle.std.proofs.lemmas.List.{append-nil}
 use mathlib.Core.Option.{some, some-ne-none}
@@ -11,20 +12,20 @@ use Rattle.ticket_steps.specs.declared.seats.Phase.{Phase}
 use Rattle.ticket_steps.specs.declared.seats.Phase.TheVariants.{Holding, Posted}
 use Rattle.ticket_steps.specs.CoreStates.{CoreState, opening_core}
 use Rattle.ticket_steps.specs.Happenings.{Happening, split, drew, waited, held, posted, post_refused, left_posted, recorded, refused, glanced, gathered}
-use Rattle.ticket_steps.specs.Happenings.{turns_ended_by, recordings, Moves, Leads}
+use Rattle.ticket_steps.specs.Happenings.{calls_ended_by, recordings, Moves, Leads}
 use Rattle.ticket_steps.specs.History.{entry}
 use Rattle.ticket_steps.specs.Lawful.{IsLawful}
 use Rattle.ticket_steps.specs.Schedules.{Schedule, IsSchedule}
-use Rattle.ticket_steps.specs.Seats.{IsSeatAt, is_present, tickets_of, fresh_seat, waiting_seat, holding_seat, posted_seat, seat_after_turn, seat_after_split}
+use Rattle.ticket_steps.specs.Seats.{IsSeatAt, is_present, tickets_of, fresh_seat, waiting_seat, holding_seat, posted_seat, seat_after_leave, seat_after_split}
 use Rattle.ticket_steps.specs.Seats.{other_seat, gathered_seat, gone_seat}
 use Rattle.ticket_steps.specs.Sums.{numbers_from}
-use Rattle.ticket_steps.specs.Turns.{Turn, IsTurnOf, entry_at}
+use Rattle.ticket_steps.specs.RecordedCalls.{RecordedCall, IsRecordedIn, entry_at}
 use Rattle.ticket_steps.proofs.LawfulSteps.{lawful_opened, moves_lawful}
 use Rattle.ticket_steps.proofs.Lists.{at_set, at_snoc}
 use Rattle.ticket_steps.proofs.ScheduleLemmas.{recordings-append, schedule_order}
 use Rattle.ticket_steps.proofs.SeatLemmas.{named_once, same_ticket}
 use Rattle.ticket_steps.proofs.SumLemmas.{one_if}
-use Rattle.ticket_steps.proofs.TurnLemmas.{HasTicket, ended_by-cons, leads_split, recorder, ticket_there}
+use Rattle.ticket_steps.proofs.RecordedCallLemmas.{HasTicket, ended_by-cons, leads_split, recorder, ticket_there}
 
 -- the seat with this own number has this ticket, at another place
 abbrev HasElsewhere : ℕ → List CoreSeat → ℕ → ℕ → Type 0
@@ -57,7 +58,7 @@ module _ {K C R : Type 0} (k : Ghosts K C R) (numbers draws : ℕ) where
 
   -- a ticket was drawn just now, or the seat had it and didn't leave
   abbrev Came : Core → Happening C R → ℕ → ℕ → Type 0
-  Came b h own t = (h ≡ drew own t) ⊎ (HasTicket b.seats own t × (turns_ended_by own (h ∷ []) ≡ 0))
+  Came b h own t = (h ≡ drew own t) ⊎ (HasTicket b.seats own t × (calls_ended_by own (h ∷ []) ≡ 0))
 
   other_left : (b : Core) → IsLawful numbers draws b → (own t j n : ℕ) (q : CoreSeat) (phase : Phase) → IsSeatAt b.seats j n phase q
       → is_present phase ≡ true → HasElsewhere j b.seats own t → one_if (n == own) + 0 ≡ 0
@@ -104,13 +105,13 @@ module _ {K C R : Type 0} (k : Ghosts K C R) (numbers draws : ℕ) where
         refl,
       )
   came own t b c (left_posted n) l m has =
-      let e = had_before b.seats own t m.0 (seat_after_turn m.1) refl (subst (λ (z : Core). HasTicket z.seats own t) m.4 has) in
+      let e = had_before b.seats own t m.0 (seat_after_leave m.1) refl (subst (λ (z : Core). HasTicket z.seats own t) m.4 has) in
       inr ((e.0, e.1, e.2, e.3, e.4), other_left b l own t m.0 n m.1 (Posted m.2) m.3 refl e)
   came own t b c (recorded n call reply) l m has =
-      let e = had_before b.seats own t m.0 (seat_after_turn m.1) refl (subst (λ (z : Core). HasTicket z.seats own t) m.5 has) in
+      let e = had_before b.seats own t m.0 (seat_after_leave m.1) refl (subst (λ (z : Core). HasTicket z.seats own t) m.5 has) in
       inr ((e.0, e.1, e.2, e.3, e.4), other_left b l own t m.0 n m.1 (Holding m.2) m.3 refl e)
   came own t b c (refused n) l m has =
-      let e = had_before b.seats own t m.0 (seat_after_turn m.1) refl (subst (λ (z : Core). HasTicket z.seats own t) m.4 has) in
+      let e = had_before b.seats own t m.0 (seat_after_leave m.1) refl (subst (λ (z : Core). HasTicket z.seats own t) m.4 has) in
       inr ((e.0, e.1, e.2, e.3, e.4), other_left b l own t m.0 n m.1 (Holding m.2) m.3 refl e)
   came own t b c (glanced n place word) l m has = inr (subst (λ (z : Core). HasTicket z.seats own t) m.5 has, refl)
   came own t b c (gathered n other) l m has =
@@ -120,13 +121,13 @@ module _ {K C R : Type 0} (k : Ghosts K C R) (numbers draws : ℕ) where
 
   -- the seat with this number drew this ticket, and hasn't left since
   abbrev Drew : List (Happening C R) → ℕ → ℕ → Type 0
-  Drew hs own t = (before between : List (Happening C R)) × (hs ≡ before ++ drew own t ∷ between) × (turns_ended_by own between ≡ 0)
+  Drew hs own t = (before between : List (Happening C R)) × (hs ≡ before ++ drew own t ∷ between) × (calls_ended_by own between ≡ 0)
 
-  ended_by-append : (n : ℕ) (hs later : List (Happening C R)) → turns_ended_by n (hs ++ later) ≡ turns_ended_by n hs + turns_ended_by n later
+  ended_by-append : (n : ℕ) (hs later : List (Happening C R)) → calls_ended_by n (hs ++ later) ≡ calls_ended_by n hs + calls_ended_by n later
   ended_by-append n [] later = omega arith
   ended_by-append n (h ∷ hs) later = omega (arith, ended_by-cons n h (hs ++ later), ended_by-cons n h hs, ended_by-append n hs later)
 
-  drew_more : (own t : ℕ) (done : List (Happening C R)) (h : Happening C R) → turns_ended_by own (h ∷ []) ≡ 0 → Drew done own t → Drew (done ++ h ∷ []) own t
+  drew_more : (own t : ℕ) (done : List (Happening C R)) (h : Happening C R) → calls_ended_by own (h ∷ []) ≡ 0 → Drew done own t → Drew (done ++ h ∷ []) own t
   drew_more own t done h none d = (
     d.0,
     d.1 ++ h ∷ [],
@@ -144,7 +145,7 @@ module _ {K C R : Type 0} (k : Ghosts K C R) (numbers draws : ℕ) where
       (leads_drew (done ++ h ∷ []) hs led.0 c (moves_lawful numbers draws k b led.0 h l led.1) led.2
       (λ n x now. ⊎_elim
       (λ (is : h ≡ drew n x). (done, [], ap (λ (y : Happening C R). done ++ y ∷ []) is, refl))
-      (λ (was : HasTicket b.seats n x × (turns_ended_by n (h ∷ []) ≡ 0)). drew_more n x done h was.1 (from n x was.0))
+      (λ (was : HasTicket b.seats n x × (calls_ended_by n (h ∷ []) ≡ 0)). drew_more n x done h was.1 (from n x was.0))
       (came n x b led.0 h l led.1 now)) own t has)
 
   none_at_first : (opening : k.State) (own t : ℕ) → HasTicket (opening_core {C = C} {R = R} numbers draws opening).seats own t → Drew [] own t
@@ -218,9 +219,9 @@ module _ {C R : Type 0} where
       (records h)
 
 module _ {K C R : Type 0} (k : Ghosts K C R) (s : Schedule k.State C R) (is : IsSchedule k s) where
-  -- each entry is the call of a turn
-  pub turn_of_entry : (place : ℕ) → place < length s.end.book.entries → (turn : Turn C R) × IsTurnOf s.happenings turn × (entry_at turn ≡ place)
-  turn_of_entry place lt =
+  -- each entry is that of a recorded call
+  pub call_of_entry : (place : ℕ) → place < length s.end.book.entries → (made : RecordedCall C R) × IsRecordedIn s.happenings made × (entry_at made ≡ place)
+  call_of_entry place lt =
       let start = opening_core s.numbers s.draws s.opening in
       let p = place_of s.happenings place (omega (arith, lt, ap (λ (es : List (Entry C R)). length es) (schedule_order k s is))) in
       let cut = leads_split k s.draws start s.end p.before (p.recording ∷ p.after)

@@ -15,7 +15,7 @@ use Rattle.ticket_steps.specs.declared.events.Seen.{Seen}
 use Rattle.ticket_steps.specs.CoreStates.{CoreState, opening_core}
 use Rattle.ticket_steps.specs.Faults.{Shows, LeadsBy}
 use Rattle.ticket_steps.specs.Happenings.{Happening, split, drew, waited, held, posted, post_refused, left_posted, recorded, refused, glanced, gathered}
-use Rattle.ticket_steps.specs.Happenings.{calls_made, turns_ended, recorded_by, recordings, Moves, Leads}
+use Rattle.ticket_steps.specs.Happenings.{calls_made, calls_ended, recorded_by, recordings, Moves, Leads}
 use Rattle.ticket_steps.specs.History.{entry, of}
 use Rattle.ticket_steps.specs.Lawful.{IsLawful}
 use Rattle.ticket_steps.specs.Seats.{IsSeatAt, is_present}
@@ -57,7 +57,7 @@ module _ {C R : Type 0} where
   of-recordings n (gathered own other ∷ hs) = of-recordings n hs
 
   pub count-cons : (h : Happening C R) (hs : List (Happening C R)) → (calls_made (h ∷ hs) ≡ calls_made (h ∷ []) + calls_made hs)
-      × (turns_ended (h ∷ hs) ≡ turns_ended (h ∷ []) + turns_ended hs)
+      × (calls_ended (h ∷ hs) ≡ calls_ended (h ∷ []) + calls_ended hs)
   count-cons (split own count) hs = (omega arith, omega arith)
   count-cons (drew own ticket) hs = (omega arith, omega arith)
   count-cons (waited own) hs = (omega arith, omega arith)
@@ -169,9 +169,9 @@ module _ {K C R : Type 0} (k : Ghosts K C R) where
     abbrev served : CoreState k.State C R → ℕ
     served c = c.served
 
-    -- the book has taken in the calls that were made since, and the number served has risen by the turns that have ended
+    -- the book has taken in the calls that were made since, and the number served has risen by the calls that have ended
     abbrev pub Counts : CoreState k.State C R → CoreState k.State C R → List (Happening C R) → Type 0
-    Counts b c hs = (calls_handled c.book ≡ calls_handled b.book + calls_made hs) × (c.served ≡ b.served + turns_ended hs)
+    Counts b c hs = (calls_handled c.book ≡ calls_handled b.book + calls_made hs) × (c.served ≡ b.served + calls_ended hs)
 
     moves_count : (b c : CoreState k.State C R) (h : Happening C R) → Moves k draws b h c → Counts b c (h ∷ [])
     moves_count b c (split own count) t = (omega (arith, ap taken t.6), omega (arith, ap served t.6))
@@ -267,7 +267,7 @@ module _ {K C R : Type 0} (k : Ghosts K C R) where
   pub schedule_made : (s : Schedule k.State C R) → IsSchedule k s → calls_made s.happenings ≡ calls_handled s.end.book
   schedule_made s is = omega (arith, (leads_count s.draws (opening_core s.numbers s.draws s.opening) s.end s.happenings is.leads).0)
 
-  pub schedule_ended : (s : Schedule k.State C R) → IsSchedule k s → turns_ended s.happenings ≡ s.end.served
+  pub schedule_ended : (s : Schedule k.State C R) → IsSchedule k s → calls_ended s.happenings ≡ s.end.served
   schedule_ended s is = omega (arith, (leads_count s.draws (opening_core s.numbers s.draws s.opening) s.end s.happenings is.leads).1)
 
   pub schedule_strangers : (s : Schedule k.State C R) → IsSchedule k s → (n : ℕ) → s.numbers ≤ n → of n s.end.book.entries ≡ []

@@ -7,7 +7,7 @@ use Rattle.ticket_steps.specs.Sums.{numbers_from}
 
 pub record CoreState (S C R : Type 0) : Type 0 where
   pub next : ℕ
-  -- the number served: the ticket of the seat whose turn it is
+  -- the number served: the ticket of the seat whose turn has come
   pub served : ℕ
   -- in the order in which they were made
   pub seats : List CoreSeat

@@ -11,7 +11,8 @@ use Rattle.ticket_steps.specs.declared.events.Seen.TheVariants as shows
 use Rattle.ticket_steps.specs.Books.{BookState, with_entry, with_refusal}
 use Rattle.ticket_steps.specs.CoreStates.{CoreState, core_state}
 use Rattle.ticket_steps.specs.History.{entry}
-use Rattle.ticket_steps.specs.Seats.{IsSeatAt, seat_after_split, other_seat, waiting_seat, holding_seat, posted_seat, seat_after_turn, gathered_seat, gone_seat}
+use Rattle.ticket_steps.specs.Seats.{IsSeatAt, seat_after_split, other_seat, waiting_seat, holding_seat, posted_seat, seat_after_leave, gathered_seat}
+use Rattle.ticket_steps.specs.Seats.{gone_seat}
 
 -- one event with its outcome; seats are named by their own numbers. A call that was refused for memory leaves nothing here
 pub data Happening (C R : Type 0) : Type 0 where
@@ -90,34 +91,34 @@ module _ {C R : Type 0} where
   calls_made (refused own ∷ hs) = 1 + calls_made hs
   calls_made (_ ∷ hs) = calls_made hs
 
-  -- the number of turns that have ended: each leave ends one
-  abbrev pub turns_ended : List (Happening C R) → ℕ
-  turns_ended [] = 0
-  turns_ended (left_posted own ∷ hs) = 1 + turns_ended hs
-  turns_ended (recorded own call reply ∷ hs) = 1 + turns_ended hs
-  turns_ended (refused own ∷ hs) = 1 + turns_ended hs
-  turns_ended (_ ∷ hs) = turns_ended hs
+  -- the number of calls that have ended: each leave ends one
+  abbrev pub calls_ended : List (Happening C R) → ℕ
+  calls_ended [] = 0
+  calls_ended (left_posted own ∷ hs) = 1 + calls_ended hs
+  calls_ended (recorded own call reply ∷ hs) = 1 + calls_ended hs
+  calls_ended (refused own ∷ hs) = 1 + calls_ended hs
+  calls_ended (_ ∷ hs) = calls_ended hs
 
-  -- the number of turns that a seat has ended
-  abbrev pub turns_ended_by : ℕ → List (Happening C R) → ℕ
-  turns_ended_by number [] = 0
-  turns_ended_by number (left_posted own ∷ hs) = cond (own == number) 1 0 + turns_ended_by number hs
-  turns_ended_by number (recorded own call reply ∷ hs) = cond (own == number) 1 0 + turns_ended_by number hs
-  turns_ended_by number (refused own ∷ hs) = cond (own == number) 1 0 + turns_ended_by number hs
-  turns_ended_by number (_ ∷ hs) = turns_ended_by number hs
+  -- the number of calls that a seat has ended
+  abbrev pub calls_ended_by : ℕ → List (Happening C R) → ℕ
+  calls_ended_by number [] = 0
+  calls_ended_by number (left_posted own ∷ hs) = cond (own == number) 1 0 + calls_ended_by number hs
+  calls_ended_by number (recorded own call reply ∷ hs) = cond (own == number) 1 0 + calls_ended_by number hs
+  calls_ended_by number (refused own ∷ hs) = cond (own == number) 1 0 + calls_ended_by number hs
+  calls_ended_by number (_ ∷ hs) = calls_ended_by number hs
 
 module _ {S C R : Type 0} where
   -- other seats; everything else stays as it was
   abbrev pub with_seats : CoreState S C R → List CoreSeat → CoreState S C R
   with_seats b seats = core_state b.next b.served seats b.book
 
-  -- the holder at the place i has posted: the book contains what the post added, and the turn continues
+  -- the holder at the place i has posted: the book contains what the post added, and the seat still holds
   abbrev pub after_post : CoreState S C R → ℕ → ℕ → CoreSeat → BookState S C R → CoreState S C R
   after_post b i ticket p book = core_state b.next b.served (slice_set b.seats i (posted_seat ticket p)) book
 
-  -- the holder at the place i has left: its turn is over, and this book is home
+  -- the holder at the place i has left: its call has ended, and this book is home
   abbrev pub after_leave : CoreState S C R → ℕ → CoreSeat → BookState S C R → CoreState S C R
-  after_leave b i p book = core_state b.next (b.served + 1) (slice_set b.seats i (seat_after_turn p)) book
+  after_leave b i p book = core_state b.next (b.served + 1) (slice_set b.seats i (seat_after_leave p)) book
 
 module _ {K C R : Type 0} (k : Ghosts K C R) (draws : ℕ) where
   -- this event and outcome lead from one core state to another; each number brings this many draws

@@ -25,7 +25,7 @@ spare_seats s = cond s.fresh (length s.numbers - 1) 0
 -- the facts of every core state, in numbers
 pub record IsLawful {S C R : Type 0} (numbers draws : ℕ) (c : CoreState S C R) : Type 0 where
   pub each : (i : ℕ) (s : CoreSeat) → get_elem? c.seats i ≡ some s → IsSeat draws c.served s
-  -- each ticket below the next one was left, or is held by one seat; no seat has any other ticket
+  -- each ticket below the next one was left, or one seat has it; no seat has any other ticket
   pub tickets : (t : ℕ) → tickets_at t c.seats + once_below t c.served ≡ once_below t c.next
   -- as many seats have a ticket as tickets were drawn and not left
   pub queue : c.next ≡ c.served + total (λ (s : CoreSeat). length (tickets_of s.phase)) c.seats

@@ -10,6 +10,6 @@ pub mod Lawful
 pub mod Grants
 pub mod CounterBooks
 pub mod Schedules
-pub mod Turns
+pub mod RecordedCalls
 pub mod Endless
 pub mod Cores

@@ -33,7 +33,7 @@ pub record ShowsAt {K C R : Type 0} (k : Ghosts K C R) (opening : k.State) (plac
   pub word_is : word ≡ slice_index (k.board (replay k.step opening entries)) place
 
 module _ {S C R : Type 0} where
-  -- each ticket from the number served to the last drawn is held by one seat, and no seat has any other ticket
+  -- one seat has each ticket from the number served to the last drawn, and no seat has any other ticket
   pub record IsLine (c : CoreState S C R) : Type 0 where
     pub past : (ticket : ℕ) → ticket < c.served → tickets_at ticket c.seats ≡ 0
     pub in_line : (ticket : ℕ) → c.served ≤ ticket → ticket < c.next → tickets_at ticket c.seats ≡ 1

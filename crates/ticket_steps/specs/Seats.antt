@@ -68,8 +68,8 @@ abbrev pub posted_seat : ℕ → CoreSeat → CoreSeat
 posted_seat ticket s = seat s.own s.numbers (Posted ticket) s.left s.calls s.fresh
 
 -- a holder that has left
-abbrev pub seat_after_turn : CoreSeat → CoreSeat
-seat_after_turn s = seat s.own s.numbers Idle s.left (s.calls + 1) s.fresh
+abbrev pub seat_after_leave : CoreSeat → CoreSeat
+seat_after_leave s = seat s.own s.numbers Idle s.left (s.calls + 1) s.fresh
 
 -- a seat with the numbers and calls of another; the other's draws are lost
 abbrev pub gathered_seat : CoreSeat → CoreSeat → CoreSeat

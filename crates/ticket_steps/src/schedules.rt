@@ -7,12 +7,12 @@ ghost use Rattle.ticket_steps.specs.declared.seats.CoreSeat.{CoreSeat};
 ghost use Rattle.ticket_steps.specs.Books.{IsLawfulBook, calls_handled};
 ghost use Rattle.ticket_steps.specs.CoreStates.{IsCounted};
 ghost use Rattle.ticket_steps.specs.Endless.{Endless, IsEndless, IsFair, HoldsLater};
-ghost use Rattle.ticket_steps.specs.Happenings.{Happening, calls_made, drew, glanced, recorded_by, recordings, turns_ended};
+ghost use Rattle.ticket_steps.specs.Happenings.{Happening, calls_made, drew, glanced, recorded_by, recordings, calls_ended};
 ghost use Rattle.ticket_steps.specs.History.{entry, of};
 ghost use Rattle.ticket_steps.specs.Schedules.{Schedule, IsSchedule, IsLine, ShowsAt};
 ghost use Rattle.ticket_steps.specs.Seats.{Holds, answering, holders, is_present, tickets_of};
 ghost use Rattle.ticket_steps.specs.Sums.{total, once_below};
-ghost use Rattle.ticket_steps.specs.Turns.{Turn, IsTurnOf, drawn_at, entry_at, GoesOn};
+ghost use Rattle.ticket_steps.specs.RecordedCalls.{RecordedCall, IsRecordedIn, drawn_at, entry_at, GoesOn};
 ghost use Rattle.ticket_steps.specs.declared.seats.Phase.TheVariants.{Waiting};
 
 use crate::books::Kept;
@@ -27,16 +27,16 @@ use crate::books::Kept;
 ///   drawn, each once (`line`);
 /// - entries and refusals together are the number served, plus one while a seat has posted its call and not
 ///   left (`counted`). They are the calls that were made (`made`);
-/// - the number served is the number of turns that have ended (`ended`). It is also the number of calls that
+/// - the number served is the number of calls that have ended (`ended`). It is also the number of calls that
 ///   all seats together have ended (`calls`). If there is a seat for all numbers, it is the number of calls
 ///   that this seat has ended (`alone`);
 /// - the book is lawful: its entries are legal, and its state is their replay (`lawful`);
 /// - the entries are the calls that were recorded, by a post or by a leave, in the order of the posts and
-///   leaves (`order`). The entry of a turn is at the place where its recording is among them (`turn`), and each
-///   entry is that of a turn (`turns`);
-/// - first come, first served: if a seat drew before another, its entry stands before the other's
+///   leaves (`order`). The entry of a recorded call is at the place that its recording has among them
+///   (`placed`), and each entry is that of a recorded call (`recorded`);
+/// - first come, first served: if a seat drew before another, its entry comes before the other's
 ///   (`first_come`);
-/// - while a seat waits or holds, fewer turns end than there are numbers (`bypass`);
+/// - while a seat waits or holds, fewer calls end than there are numbers (`bypass`);
 /// - nothing is stuck: while a seat waits, some seat holds, or the seat whose ticket is served waits and holds
 ///   at its next look (`unstuck`);
 /// - the entries of each number are the calls that it recorded, by a post or by a leave, in their order
@@ -58,7 +58,7 @@ pub fn every_schedule<K: Kept>()
     ensures made { (s : Schedule K.State K.Call K.Reply) → IsSchedule K.Kept s
         → calls_made s.happenings ≡ calls_handled s.end.book }
     ensures ended { (s : Schedule K.State K.Call K.Reply) → IsSchedule K.Kept s
-        → turns_ended s.happenings ≡ s.end.served }
+        → calls_ended s.happenings ≡ s.end.served }
     ensures calls { (s : Schedule K.State K.Call K.Reply) → IsSchedule K.Kept s
         → total (λ (p : CoreSeat). p.calls) s.end.seats ≡ s.end.served }
     ensures alone { (s : Schedule K.State K.Call K.Reply) → IsSchedule K.Kept s
@@ -70,20 +70,20 @@ pub fn every_schedule<K: Kept>()
         → (number : ℕ) → of number s.end.book.entries ≡ recorded_by number s.happenings }
     ensures order { (s : Schedule K.State K.Call K.Reply) → IsSchedule K.Kept s
         → s.end.book.entries ≡ recordings s.happenings }
-    ensures turn { (s : Schedule K.State K.Call K.Reply) → IsSchedule K.Kept s
-        → (turn : Turn K.Call K.Reply) → IsTurnOf s.happenings turn
-        → get_elem? s.end.book.entries (entry_at turn) ≡ some (entry turn.own turn.call turn.reply) }
-    ensures turns { (s : Schedule K.State K.Call K.Reply) → IsSchedule K.Kept s
+    ensures placed { (s : Schedule K.State K.Call K.Reply) → IsSchedule K.Kept s
+        → (made : RecordedCall K.Call K.Reply) → IsRecordedIn s.happenings made
+        → get_elem? s.end.book.entries (entry_at made) ≡ some (entry made.own made.call made.reply) }
+    ensures recorded { (s : Schedule K.State K.Call K.Reply) → IsSchedule K.Kept s
         → (place : ℕ) → place < length s.end.book.entries
-        → (turn : Turn K.Call K.Reply) × IsTurnOf s.happenings turn × (entry_at turn ≡ place) }
+        → (made : RecordedCall K.Call K.Reply) × IsRecordedIn s.happenings made × (entry_at made ≡ place) }
     ensures first_come { (s : Schedule K.State K.Call K.Reply) → IsSchedule K.Kept s
-        → (one other : Turn K.Call K.Reply) → IsTurnOf s.happenings one → IsTurnOf s.happenings other
+        → (one other : RecordedCall K.Call K.Reply) → IsRecordedIn s.happenings one → IsRecordedIn s.happenings other
         → drawn_at one < drawn_at other → entry_at one < entry_at other }
     ensures bypass { (s : Schedule K.State K.Call K.Reply) → IsSchedule K.Kept s
         → (own ticket : ℕ) (before after : List (Happening K.Call K.Reply))
         → s.happenings ≡ before ++ drew own ticket ∷ after
         → (i : ℕ) (p : CoreSeat) → get_elem? s.end.seats i ≡ some p
-        → tickets_of p.phase ≡ ticket ∷ [] → turns_ended after < s.numbers }
+        → tickets_of p.phase ≡ ticket ∷ [] → calls_ended after < s.numbers }
     ensures unstuck { (s : Schedule K.State K.Call K.Reply) → IsSchedule K.Kept s
         → (i ticket : ℕ) (p : CoreSeat) → get_elem? s.end.seats i ≡ some p
         → p.phase ≡ Waiting ticket → GoesOn K.Kept s.draws s.end }

@@ -2,7 +2,7 @@
 
 ghost use Rattle.std.specs.Prelude.{◌≡◌, ◌↔◌, ◌+◌, ◌*◌, ◌^◌, ◌<◌, ◌≤◌, length, IsTrue, true};
 ghost use Rattle.ticket_steps.specs.declared.seats.Phase.TheVariants.{Idle};
-ghost use Rattle.ticket_steps.specs.Seats.{is_present, seat_after_split, other_seat, waiting_seat, holding_seat, posted_seat, seat_after_turn, gathered_seat};
+ghost use Rattle.ticket_steps.specs.Seats.{is_present, seat_after_split, other_seat, waiting_seat, holding_seat, posted_seat, seat_after_leave, gathered_seat};
 ghost use Rattle.ticket_steps.specs.Seats.{gone_seat};
 
 use std::collections::LinkedList;
@@ -18,7 +18,7 @@ pub enum Phase {
     Idle,
     /// It has drawn this ticket, and waits for its turn.
     Waiting(u64),
-    /// It has this ticket, and it is its turn: it holds the book.
+    /// It has this ticket, and its turn has come: it holds the book.
     Holding(u64),
     /// It has this ticket, and its call is recorded in the book: it only has to leave.
     Posted(u64),
@@ -115,10 +115,10 @@ impl CoreSeat {
         self.phase = Phase::Posted(ticket);
     }
 
-    /// Ends its turn.
+    /// Leaves: its call has ended.
     pub(crate) fn end(&mut self)
         requires { self.old.calls + 1 < 2 ^ 64 }
-        ensures { self.new ≡ seat_after_turn self.old }
+        ensures { self.new ≡ seat_after_leave self.old }
     {
         self.phase = Phase::Idle;
         self.calls += 1;

@@ -17,7 +17,7 @@ ghost use Rattle.check_sched.specs.Step.{step};
 /// and fall, but no abandon or reschedule lets another object in before that time. Look at the takes that
 /// could choose the waiting object: it was due, enabled or forced, and had room under the limit. Until one of
 /// them chooses it, they choose each other object at most once (`once`). So with n objects the n-th of these
-/// takes has chosen it: its check began, or it was put off (`turn`). Each of these takes chooses some
+/// takes has chosen it: its check began, or it was put off (`chosen`). Each of these takes chooses some
 /// object, unless it is refused because its moment is above 2^60 or 2^60 runs were handed out (`chooses`).
 pub fn passed_over_once()
     ensures once { (s : State) → (history : List (Entry Call Reply)) → (waiting time other : ℕ)
@@ -25,7 +25,7 @@ pub fn passed_over_once()
         → list_all (λ e. lets_none_in waiting time e.call) history ≡ true
         → is_among waiting (choices_with waiting s history) ≡ false
         → count_by (λ n. n == other) (choices_with waiting s history) ≤ 1 }
-    ensures turn { (s : State) → (history : List (Entry Call Reply)) → (waiting time : ℕ)
+    ensures chosen { (s : State) → (history : List (Entry Call Reply)) → (waiting time : ℕ)
         → IsLegal step s history → WaitsFor waiting time s
         → list_all (λ e. lets_none_in waiting time e.call) history ≡ true
         → length s.objects ≤ length (choices_with waiting s history)

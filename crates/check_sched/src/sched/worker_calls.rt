@@ -1,4 +1,4 @@
-//! A check from its turn to its result: taken or put off, reported or abandoned.
+//! A check from its choice to its result: taken or put off, reported or abandoned.
 
 ghost use Rattle.std.specs.Prelude.{◌≡◌, ◌+◌, ◌<◌, ◌≤◌, IfSome, IsTrue, Ok, OnOk, None, false, length, slice_set, true};
 ghost use Rattle.check_objects.specs.Configuration.{object_count};
@@ -68,7 +68,7 @@ impl Sched {
         limit == 0 || (self.roster.running_services() as u64) < limit
     }
 
-    /// Whether the object whose turn has come isn't to be checked: its check isn't forced, and some
+    /// Whether the object that a take chose isn't to be checked: its check isn't forced, and some
     /// dependency of it fails. Only the scratch space changes.
     #[tactic(auto, using(crate::proofs::TakeLaws::unblocked))]
     fn is_held_back(&mut self, object: u32) -> bool

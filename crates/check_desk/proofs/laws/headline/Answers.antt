@@ -1,8 +1,8 @@
 use Rattle.std.proofs.Common.{refl, sym}
 use Rattle.ticket_steps.proofs.EndlessLemmas.{drawn_holds}
-use Rattle.ticket_steps.proofs.OriginLemmas.{turn_of_entry}
+use Rattle.ticket_steps.proofs.OriginLemmas.{call_of_entry}
 use Rattle.ticket_steps.proofs.ScheduleLemmas.{schedule_made, schedule_of, schedule_order, schedule_strangers}
-use Rattle.ticket_steps.proofs.TurnLemmas.{first_come, schedule_bypass, schedule_goes_on, turn_entry}
+use Rattle.ticket_steps.proofs.RecordedCallLemmas.{first_come, schedule_bypass, schedule_goes_on, entry_of_call}
 use Rattle.check_sched.specs.State.{opening}
 use Rattle.check_sched.proofs.PublicLaws.{taken_next, taken_once}
 use Rattle.check_book.specs.contracts.book.BookKept.TheImpl.{ghosts as kept_book}
@@ -21,8 +21,8 @@ returns c = record {
       taken_next (opening setup start) front back e object run refl (legal_parts setup start room s is front back e parts) begun;
   entries = λ setup start room s is number. schedule_of kept_book s is.schedule number;
   order = λ setup start room s is. schedule_order kept_book s is.schedule;
-  turn = λ setup start room s is turn of_turn. turn_entry kept_book s is.schedule turn of_turn;
-  turns = λ setup start room s is place lt. turn_of_entry kept_book s is.schedule place lt;
+  placed = λ setup start room s is made is_recorded. entry_of_call kept_book s is.schedule made is_recorded;
+  recorded = λ setup start room s is place lt. call_of_entry kept_book s is.schedule place lt;
   first_come = λ setup start room s is one other is_one is_other before. first_come kept_book s is.schedule one other is_one is_other before;
   bypass =
       λ setup start room s is own ticket before after parts i p at has.

@@ -1,7 +1,7 @@
 use Rattle.std.proofs.Common.{sym}
-use Rattle.ticket_steps.proofs.OriginLemmas.{turn_of_entry}
+use Rattle.ticket_steps.proofs.OriginLemmas.{call_of_entry}
 use Rattle.ticket_steps.proofs.ScheduleLemmas.{schedule_made, schedule_of, schedule_order, schedule_strangers}
-use Rattle.ticket_steps.proofs.TurnLemmas.{first_come, schedule_bypass, schedule_goes_on, turn_entry}
+use Rattle.ticket_steps.proofs.RecordedCallLemmas.{first_come, schedule_bypass, schedule_goes_on, entry_of_call}
 use Rattle.check_sched.proofs.PublicLaws.{taken_after, taken_number, taken_once}
 use Rattle.check_book.specs.contracts.book.BookKept.TheImpl.{ghosts as kept_book}
 use Rattle.check_desk.proofs.ScheduleLemmas.{from_parts, joined_parts, legal_from, legal_joined, sched_from, sched_joined, taken_by_one}
@@ -22,8 +22,8 @@ returns c = record {
       taken_number opened.sched front back e object run (from_parts opened s is front back e parts) begun;
   entries = λ opened s is number. schedule_of kept_book s is.schedule number;
   order = λ opened s is. schedule_order kept_book s is.schedule;
-  turn = λ opened s is turn of_turn. turn_entry kept_book s is.schedule turn of_turn;
-  turns = λ opened s is place lt. turn_of_entry kept_book s is.schedule place lt;
+  placed = λ opened s is made is_recorded. entry_of_call kept_book s is.schedule made is_recorded;
+  recorded = λ opened s is place lt. call_of_entry kept_book s is.schedule place lt;
   first_come = λ opened s is one other is_one is_other before. first_come kept_book s is.schedule one other is_one is_other before;
   bypass =
       λ opened s is own ticket before after parts i p at has. schedule_bypass kept_book s is.schedule own ticket before after parts i p at has;

@@ -1,5 +1,5 @@
 use Rattle.std.proofs.Common.{[], ap, ◌∙◌}
-use Rattle.check_desk.proofs.ReportLemmas.{glanced_after, last_told, seen_later}
+use Rattle.check_desk.proofs.ReportLemmas.{glanced_after, last_standing, seen_later}
 use Rattle.check_desk.specs.Passes.{hold_caller, pass_of}
 use Rattle.check_desk.proofs.laws.returned_reports.Goals as goal
 
@@ -12,5 +12,5 @@ returns c = record {
   glanced = λ desk e before after object standing h follows legal shown.
       glanced_after desk e (pass_of before) (pass_of after) object standing h follows.0 legal shown;
   same_standing = λ desk before since own object run code standing changed next there legal quiet.
-      last_told desk before since own object run code standing changed next there legal quiet;
+      last_standing desk before since own object run code standing changed next there legal quiet;
 }

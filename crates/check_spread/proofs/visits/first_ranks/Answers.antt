@@ -3,7 +3,8 @@ use Rattle.std.proofs.Math.Nat.{mod-lt}
 use Rattle.std.proofs.lemmas.Grind.{get_or_default_zero}
 use Rattle.std.proofs.lemmas.Result.{IfOk-weaker}
 use Rattle.check_spread.specs.Visits.{sums_before}
-use Rattle.check_spread.proofs.VisitLemmas.{has_remainder_before, counts_first, counts_add, counts_skip, counts_all, few_in_all, ranks_first, visits_few, remainder_same}
+use Rattle.check_spread.proofs.VisitLemmas.{has_remainder_before, counts_first, counts_add, counts_skip, counts_all, few_in_all, ranks_first, visits_few}
+use Rattle.check_spread.proofs.VisitLemmas.{remainder_same}
 use Rattle.check_spread.proofs.VisitLemmas.{remainder_more}
 use Rattle.check_spread.proofs.visits.first_ranks.Goals as goal
 use Rattle.check_spread.proofs.visits.first_ranks.Goals.{then-is_scheduled, else-is_scheduled}

@@ -4,7 +4,7 @@ use Rattle.clap.specs.Words.{App, HasKind, fault_of, is_simple, is_simple_and_fr
 use Rattle.clap.proofs.BuiltLemmas.{on_ok_always}
 use Rattle.clap.proofs.OnLiterals.{clap_on_literals}
 use Rattle.nagsched_cli.specs.Arguments.{job_of, program}
-use Rattle.nagsched_cli.proofs.ArgumentLemmas.{reads_asked, reads_errors, tells_explains}
+use Rattle.nagsched_cli.proofs.ArgumentLemmas.{reads_asked, reads_errors, error_explains}
 use Rattle.nagsched_cli.proofs.job.job.Goals as goal
 
 program_is_free : is_simple_and_free program ≡ true
@@ -35,5 +35,5 @@ returns-in-Ok-clause-faultless c =
 pub returns-in-Err-clause-errors : goal.returns-in-Err-clause-errors
 returns-in-Err-clause-errors c =
     let kinds = c.in-Err.ensures.kinds (ap is_simple_and_free c.in_ok-build_program.ensures ∙ program_is_free) in
-    tells_explains (texts c.args.words.now) _ _ (subst
+    error_explains (texts c.args.words.now) _ _ (subst
     (λ (a : App). HasKind (fault_of a (texts c.args.words.now)) c.in-Err.error) c.in_ok-build_program.ensures kinds) c.words_error_of.ensures

@@ -1,5 +1,5 @@
 use Rattle.std.proofs.lemmas.Result.{err_from_is_err_and}
-use Rattle.nagsched_jobs.proofs.CheckLemmas.{line_told_of, memory_is_no_write, printed_check, torn_check, unwritten_check}
+use Rattle.nagsched_jobs.proofs.CheckLemmas.{line_report_of, memory_is_no_write, printed_check, torn_check, unwritten_check}
 use Rattle.nagsched_jobs.specs.CheckEnded.{IsSetupLineReport}
 use Rattle.nagsched_jobs.specs.Reading.{document_input_of}
 use Rattle.nagsched_jobs.proofs.check.write_setup_line.Goals as goal
@@ -21,7 +21,7 @@ returns-in_err-print_text g c =
     let p = err_from_is_err_and c.from_residual-in_err-print_text.result c.from_residual-in_err-print_text.ensures.1 in
     let t = c.in_ok-report.report in
     let w = c.in_err-print_text.ensures in
-    let can = line_told_of _ c.in_ok-input.input.items t.text.items t.outcome c.in_ok-input.ensures.all
+    let can = line_report_of _ c.in_ok-input.input.items t.text.items t.outcome c.in_ok-input.ensures.all
     (rw (c.document.ensures, c.deref.ensures.value) at c.in_ok-report.ensures.report) in
     rw (p.1, p.2) (torn_check IsSetupLineReport document_input_of _ _ _ _ _ c.in_ok-input.input.items t.text.items t.outcome w.only can
     (rw c.deref-2.ensures.value at w.fault))
@@ -30,7 +30,7 @@ pub returns : goal.returns
 returns g c =
     let t = c.in_ok-report.report in
     let all = c.in_ok-input.ensures.all in
-    let can = line_told_of _ c.in_ok-input.input.items t.text.items t.outcome all
+    let can = line_report_of _ c.in_ok-input.input.items t.text.items t.outcome all
     (rw (c.document.ensures, c.deref.ensures.value) at c.in_ok-report.ensures.report) in
     printed_check IsSetupLineReport document_input_of _ _ _ _ c.in_ok-input.input.items t.text.items t.outcome all c.in_ok-input.ensures.left.0 can
     (rw c.deref-2.ensures.value at c.in_ok-print_text.ensures.written)

@@ -19,7 +19,7 @@ loop-line-init g c =
           (omega (arith, bounded, first)),
     )
 
--- what is still to come is numbered behind the line
+-- what is still to come is numbered after the line
 pub loop-line-preserved : goal.loop-line-preserved
 loop-line-preserved g c =
     let before = c.loop-line.invariant in

@@ -5,7 +5,7 @@ use Rattle.nagsched_protocol.specs.Input.{first_line_of}
 use Rattle.nagsched_protocol.specs.Script.{with_setup_refusal}
 use Rattle.nagsched_protocol.specs.declared.line_reader.TheConstants.{SETUP_PREFIX_BYTES}
 use Rattle.nagsched_protocol.proofs.LiveInputLemmas.{behind_size}
-use Rattle.nagsched_run.proofs.LiveLemmas.{gives_refused, live_unwritten, reads_spend, written_spends, written_told}
+use Rattle.nagsched_run.proofs.LiveLemmas.{gives_refused, live_unwritten, reads_spend, written_spends, written_is}
 use Rattle.nagsched_run.proofs.ContinuationLemmas.{ends_short, if_later, setup_refusal, whole_gone}
 use Rattle.nagsched_run.proofs.live.converse.Goals as goal
 
@@ -38,7 +38,7 @@ returns-in-Err-Refused-clause-conversation g c =
     gives_refused _ c.in_ok-setup.setup _ c.in-Err-Refused.refusal _ t.3.0 c.in-Err-Refused.is
     (rw (c.in-Err-Refused.is) at c.in-Err-Refused.field-0-is) in
     let r = c.refuse.ensures in
-    rw (← written_told _ _ c.as_live_result.ensures)
+    rw (← written_is _ _ c.as_live_result.ensures)
     (setup_refusal _ t.0 _ _ _ _ c.in-Err-Refused.refusal c.in_ok-setup.whole _ s t.1 t.2 t.3.1.follows t.3.1.ended r.outcome r.written r.fault)
 
 pub returns-clause-conversation : goal.returns-clause-conversation

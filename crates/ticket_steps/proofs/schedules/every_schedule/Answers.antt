@@ -2,8 +2,8 @@ use Rattle.std.proofs.Common.{arith}
 use Rattle.ticket_steps.specs.declared.seats.CoreSeat.{CoreSeat}
 use Rattle.ticket_steps.proofs.ScheduleLemmas.{schedule_lawful, schedule_book, schedule_made, schedule_ended, schedule_of, schedule_glanced, schedule_strangers}
 use Rattle.ticket_steps.proofs.ScheduleLemmas.{lawful_line, schedule_order}
-use Rattle.ticket_steps.proofs.OriginLemmas.{turn_of_entry}
-use Rattle.ticket_steps.proofs.TurnLemmas.{first_come, schedule_bypass, schedule_goes_on, turn_entry}
+use Rattle.ticket_steps.proofs.OriginLemmas.{call_of_entry}
+use Rattle.ticket_steps.proofs.RecordedCallLemmas.{first_come, schedule_bypass, schedule_goes_on, entry_of_call}
 use Rattle.ticket_steps.proofs.SeatLemmas.{alone, named_once, one_holder, served_le, unnumbered_calls}
 use Rattle.ticket_steps.proofs.schedules.every_schedule.Goals as goal
 
@@ -27,8 +27,8 @@ returns g c = record {
   lawful = λ s is. schedule_book g.K.Kept s is;
   entries = λ s is. schedule_of g.K.Kept s is;
   order = λ s is. schedule_order g.K.Kept s is;
-  turn = λ s is turn of_turn. turn_entry g.K.Kept s is turn of_turn;
-  turns = λ s is place lt. turn_of_entry g.K.Kept s is place lt;
+  placed = λ s is made is_recorded. entry_of_call g.K.Kept s is made is_recorded;
+  recorded = λ s is place lt. call_of_entry g.K.Kept s is place lt;
   first_come = λ s is one other is_one is_other before. first_come g.K.Kept s is one other is_one is_other before;
   bypass = λ s is own ticket before after parts i p at has. schedule_bypass g.K.Kept s is own ticket before after parts i p at has;
   unstuck = λ s is i ticket p at waits. schedule_goes_on g.K.Kept s is i ticket p at waits;

@@ -1,4 +1,4 @@
--- `of` makes a value of no bytes; what contracts read of it is what the reference shows. By hand, since a ghost field is set only in a proof.
+-- `of` makes a value of no bytes; what contracts read of it is what the reference shows. A manual proof, since a ghost field is set only in a proof.
 use mathlib.Core.Path.{refl, sym, subst}
 use Prim.Native.Nat.{ℕ}
 use mathlib.Core.List.{List, [], ◌∷◌, ◌++◌}

@@ -17,7 +17,7 @@ use Rattle.check_sched.proofs.roster.Roster.change.Goals as goal
 in_range : (r : Inside) (now : RosterState) (n : ℕ) → roster_of r ≡ now → n < length now.objects → n < length r.objects.items
 in_range r now n e l = let long = ap (λ (s : RosterState). length s.objects) e in omega (arith, long, l)
 
--- a roster with so many hosts and these objects
+-- a roster with this many hosts and these objects
 abbrev roster : ℕ → List Scheduling → RosterState
 roster hosts objects = record { hosts = hosts; objects = objects }
 

@@ -20,8 +20,8 @@ returns-in-Some-2-clause-reply c =
 pub returns-in-Some-2-clause-times : goal.returns-in-Some-2-clause-times
 returns-in-Some-2-clause-times c =
     let found = sym c.in-Some.ensures in
-    let told = least_time (state_of c.self.inside) c.self.invariant.state in
-    rw found at told
+    let least_is = least_time (state_of c.self.inside) c.self.invariant.state in
+    rw found at least_is
 
 pub returns-in-None-clause-reply : goal.returns-in-None-clause-reply
 returns-in-None-clause-reply c =

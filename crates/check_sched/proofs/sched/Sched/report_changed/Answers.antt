@@ -16,7 +16,7 @@ use Rattle.check_sched.specs.Report.{flaps_with, new_standing, next_after, state
 use Rattle.check_sched.specs.Step.{state_found_in, new_standing_in, report_result, state_after_report, standing_reply, update_at}
 use Rattle.check_sched.proofs.FlappingLaws.{results_here}
 use Rattle.check_sched.proofs.IntervalLaws.{count_there, intervals_there, read_there}
-use Rattle.check_sched.proofs.ReportLaws.{is_time_holds, judged_is_standing, next_already, reported_is_state, standing_of_state, standing_read, told_answers}
+use Rattle.check_sched.proofs.ReportLaws.{is_time_holds, judged_is_standing, next_already, reported_is_state, standing_of_state, standing_read, report_answers}
 use Rattle.check_sched.proofs.SteadyLaws.{marks_after, steady_after}
 use Rattle.check_sched.proofs.UpdateLaws.{length-update_at, set_is_update}
 use Rattle.check_sched.proofs.sched.Sched.report_changed.Goals as goal
@@ -89,7 +89,7 @@ answer : (c : goal.After-change) → report_result c.args.object c.args.start c.
       standing_reply c.args.object c.new_standing-standing.result c.next_check_time-next.result (state_of c.self.inside),
     )
 answer c =
-    told_answers c.args.object c.args.start c.args.code c.args.already (state_of c.self.inside)
+    report_answers c.args.object c.args.start c.args.code c.args.already (state_of c.self.inside)
     c.state_found-found.result c.new_standing-standing.result c.next_check_time-next.result (meant c) (made c) (next_given c)
 
 -- the standings that the write leaves

@@ -29,13 +29,13 @@ invariant_of-hold g c =
     let same : book ≡ t.0 = ap (book_or t.0) (sym c.take_book-book.ensures.book ∙ ap (λ m. m.1) t.1) in
     let now : c.take_book-book.new.table_seat.me.0 ≡ view_after_look k s.ticket s.table_seat.me.0 book =
     ap (λ m. m.0) c.take_book-book.ensures.taken ∙ (ap (λ m. m.0) t.1 ∙ ap (view_after_look k s.ticket s.table_seat.me.0) (sym same)) in
-    let handed =
+    let book_out =
     subst (IsHandedOut k (start_of c.args.self.now) s.table_seat.me.0.seat.numbers s.table_seat.me.0.seen s.ticket) (sym same) (t.2 _ c.requires.1).0 in
     record {
-      bounded = handed.bounded;
+      bounded = book_out.bounded;
       out = ap (λ m. m.1) c.take_book-book.ensures.taken;
       legal = subst (λ w. IsLegalFrom k w.start w.seen) (sym now) (subst (λ a. IsLegalFrom k a (k.history book)) (sym c.requires.1)
-          (subst (λ o. IsLegal k.step o (k.history book)) handed.opening (g.met.K.Kept.legal book)));
+          (subst (λ o. IsLegal k.step o (k.history book)) book_out.opening (g.met.K.Kept.legal book)));
       holds = ap (λ w. w.seat.phase) now;
       agreement = subst (λ w. AreCountsOf s.counts w.seat) (sym now) (counts_stay s.counts s.table_seat.me.0.seat _ refl refl refl refl s.agreement);
       stale = ap (λ w. w.seat.fresh) now ∙ s.stale;

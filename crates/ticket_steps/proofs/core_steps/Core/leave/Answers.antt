@@ -13,7 +13,7 @@ use Rattle.ticket_steps.specs.declared.events.Seen.TheVariants as seen
 use Rattle.ticket_steps.specs.declared.events.Fault.TheVariants.{Phase}
 use Rattle.ticket_steps.specs.Cores.{core_state_of}
 use Rattle.ticket_steps.specs.Happenings.{recorded, refused, Moves}
-use Rattle.ticket_steps.specs.Seats.{seat_after_turn}
+use Rattle.ticket_steps.specs.Seats.{seat_after_leave}
 use Rattle.ticket_steps.proofs.BoardLemmas.{Takes, takes, board_kept}
 use Rattle.ticket_steps.proofs.CoreLemmas.{recorded_moves, refused_moves, can_end, can_refuse, changed_is, ticket_served}
 use Rattle.ticket_steps.proofs.FaultLemmas.{steps_fault, steps_shown, shows_lawful, read_is, unfit_leave, unplaced}
@@ -25,7 +25,7 @@ use Rattle.ticket_steps.proofs.core_steps.Core.leave.Goals as goal
 -- what the leave of a seat shows, whatever the book answered
 leave_shows : {K C R : Type 0} (k : Ghosts K C R) (draws : ℕ) (b : CoreState k.State C R) (i own ticket after : ℕ) (p w : CoreSeat) (call : C)
     (book : BookState k.State C R) (reply : Result R NoMemory) → k.posts_at b.book.state call ≡ None → after ≡ b.served + 1
-    → get_elem? b.seats i ≡ some p → p.own ≡ own → p.phase ≡ Holding ticket → w ≡ seat_after_turn p → Takes k own call b.book reply book
+    → get_elem? b.seats i ≡ some p → p.own ≡ own → p.phase ≡ Holding ticket → w ≡ seat_after_leave p → Takes k own call b.book reply book
     → Shows k draws b (Leave own (Some call)) (seen.Left (Some reply)) (core_state b.next after (set b.seats i w) book)
 leave_shows k draws b i own ticket after p w call book (Ok r) unplaced up at called holds is took = (
   recorded own call r,
@@ -80,7 +80,7 @@ leaves g c =
     let e = c.in_ok-at.ensures.found in
     let ticket = c.in-Holding.ticket in
     let r = c.record-reply.ensures in
-    let s = changed_is self.seats.items c.in_ok-at.at seat_after_turn (Holding ticket) e.1 c.index.ensures c.in-Holding.is c.index_mut.ensures.value c.end.ensures in
+    let s = changed_is self.seats.items c.in_ok-at.at seat_after_leave (Holding ticket) e.1 c.index.ensures c.in-Holding.is c.index_mut.ensures.value c.end.ensures in
     let first = ticket_served self c.in_ok-at.at e.1 c.index.ensures ticket (holding_holds ticket _ c.in-Holding.is) in
     leave_shows k self.draws (core_state_of self) c.in_ok-at.at c.args.seat ticket c.leave.new.self e.0 c.end.new.self c.args.call _ c.record-reply.result
     (sym c.posts.ensures ∙ c.in-None.is) (c.leave.ensures ∙ ap (λ (n : ℕ). n + 1) first.0) e.1 e.2 s.0 s.1

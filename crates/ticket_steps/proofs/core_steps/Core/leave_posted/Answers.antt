@@ -8,7 +8,7 @@ use Rattle.ticket_steps.specs.declared.events.Seen.TheVariants as seen
 use Rattle.ticket_steps.specs.declared.events.Fault.TheVariants.{Phase}
 use Rattle.ticket_steps.specs.Cores.{core_state_of}
 use Rattle.ticket_steps.specs.Happenings.{left_posted, Moves}
-use Rattle.ticket_steps.specs.Seats.{seat_after_turn}
+use Rattle.ticket_steps.specs.Seats.{seat_after_leave}
 use Rattle.ticket_steps.proofs.CoreLemmas.{left_posted_moves, can_end, changed_is, ticket_served}
 use Rattle.ticket_steps.proofs.FaultLemmas.{steps_fault, steps_shown, shows_lawful, read_is, unfit_leave_posted}
 use Rattle.ticket_steps.proofs.SeatLemmas.{posted_holds}
@@ -46,7 +46,7 @@ leaves g c =
     let self = c.args.self.now in
     let e = c.in_ok-at.ensures.found in
     let ticket = c.in-Posted.ticket in
-    let s = changed_is self.seats.items c.in_ok-at.at seat_after_turn (Posted ticket) e.1 c.index.ensures c.in-Posted.is c.index_mut.ensures.value c.end.ensures in
+    let s = changed_is self.seats.items c.in_ok-at.at seat_after_leave (Posted ticket) e.1 c.index.ensures c.in-Posted.is c.index_mut.ensures.value c.end.ensures in
     let first = ticket_served self c.in_ok-at.at e.1 c.index.ensures ticket (posted_holds ticket _ c.in-Posted.is) in
     let up : c.leave.new.self ≡ self.grants + 1 = c.leave.ensures ∙ ap (λ (n : ℕ). n + 1) first.0 in
     let b = core_state_of self in

@@ -14,7 +14,7 @@ use Rattle.ticket_steps.proofs.core_steps.Core.run.Goals as goal
 pub loop-place-init : goal.loop-place-init
 loop-place-init g c = (refl, record { opening = refl; numbers = refl; draws = refl })
 
--- the step is shown, by its own result: a body that goes on where it has a fault is refused at once
+-- the step is shown, by its own result: a body that continues where it has a fault is refused at once
 pub loop-place-preserved : goal.loop-place-preserved
 loop-place-preserved g c =
     let k = g.K.Kept in

@@ -1,4 +1,4 @@
--- The seats of a desk, and the passes that take them.
+-- The places on the heap for the passes of a desk.
 use Rattle.std.specs.Prelude.{◌≡◌, ⊤, List, [], ◌∷◌, Option, Some}
 use Rattle.std_alloc.specs.Arc.{arc_value}
 use Rattle.check_desk.specs.declared.passes.Pass.{Pass}
@@ -11,24 +11,24 @@ use Rattle.nagsched_handles.specs.declared.target.HandleTarget.TheVariants as ta
 use Rattle.nagsched_handles.specs.Desks.{desk_of, pass_state_of}
 use Rattle.nagsched_handles.specs.Handles.{contents_of}
 
--- a seat of this desk
-abbrev pub IsSeatOf : Shared → HandleTarget → Type 0
-IsSeatOf desk (target.Pass seat) = arc_value seat.shared ≡ desk
-IsSeatOf desk other = ⊥
+-- a place for a pass of this desk
+abbrev pub IsPlaceOf : Shared → HandleTarget → Type 0
+IsPlaceOf desk (target.Pass place) = arc_value place.shared ≡ desk
+IsPlaceOf desk other = ⊥
 
--- a seat of this pass's desk
-abbrev pub IsSeatFor : Pass → HandleTarget → Type 0
-IsSeatFor pass (target.Pass seat) = IsPassOf (desk_of seat) pass
-IsSeatFor pass other = ⊥
+-- a place for a pass of this pass's desk
+abbrev pub IsPlaceFor : Pass → HandleTarget → Type 0
+IsPlaceFor pass (target.Pass place) = IsPassOf (desk_of place) pass
+IsPlaceFor pass other = ⊥
 
--- the seat with the pass
-abbrev pub IsSeatWithPass : Pass → HandleTarget → HandleTarget → Type 0
-IsSeatWithPass pass (target.Pass seat) (target.Pass taken) = (taken.shared ≡ seat.shared) × (pass_state_of taken ≡ state.Resting pass)
-IsSeatWithPass pass seat taken = ⊥
+-- the place with the pass
+abbrev pub IsPlaceWithPass : Pass → HandleTarget → HandleTarget → Type 0
+IsPlaceWithPass pass (target.Pass place) (target.Pass taken) = (taken.shared ≡ place.shared) × (pass_state_of taken ≡ state.Resting pass)
+IsPlaceWithPass pass place taken = ⊥
 
--- this pass rests in a seat of this desk
+-- this pass rests in a place of this desk
 abbrev pub HasPass : Shared → Pass → Option HandleTarget → Type 0
-HasPass desk pass (Some (target.Pass seat)) = (arc_value seat.shared ≡ desk) × (pass_state_of seat ≡ state.Resting pass)
+HasPass desk pass (Some (target.Pass place)) = (arc_value place.shared ≡ desk) × (pass_state_of place ≡ state.Resting pass)
 HasPass desk pass other = ⊥
 
 -- the handles lead to these passes of this desk, in their order

@@ -1,4 +1,4 @@
-//! One turn over the counter book, as a layer above uses the lock.
+//! One call over the counter book, as a layer above uses the lock.
 
 ghost use Rattle.std.specs.Prelude.{◌≡◌, ◌+◌, MatchResult};
 ghost use Rattle.ticket_lock.specs.Tokens.{seat_of, turn_of, IsSeatOf, IsTurnOf};
@@ -9,7 +9,7 @@ use ticket_steps::{Kept, NoMemory};
 
 /// Looks. If the ticket is served, records the call under the seat's own number, posts it if it has a place
 /// on the board, and leaves.
-pub(crate) fn take_turn(
+pub(crate) fn try_call(
     lock: &TicketLock<CounterBook>,
     turn: Turn<CounterBook>,
     call: u8,

@@ -1,5 +1,6 @@
--- The turns of a schedule: the order of their entries, how many others end before one, and who has the next turn.
-use Rattle.std.proofs.Common.{◌≡◌, ◌≢◌, ℕ, suc, ◌+◌, ◌<◌, ◌≤◌, List, [], ◌∷◌, ◌++◌, length, set, sym, refl, ap, ◌∙◌, subst, arith, append_assoc, inl, inr, ⊎_elim}
+-- The recorded calls of a schedule: the order of their entries, how many others end before one, and the seat that holds next.
+use Rattle.std.proofs.Common.{◌≡◌, ◌≢◌, ℕ, suc, ◌+◌, ◌<◌, ◌≤◌, List, [], ◌∷◌, ◌++◌, length, set, sym, refl, ap, ◌∙◌, subst, arith, append_assoc, inl, inr}
+use Rattle.std.proofs.Common.{⊎_elim}
 use Rattle.std.proofs.Common.{true, ◌==◌, eq-eqb, length-append}
 use mathlib.Core.Logic.{dite}
 use native.Mathlib.Decide.{ℕ_discrete, dec_le}
@@ -14,13 +15,14 @@ use Rattle.ticket_steps.specs.declared.seats.Phase.TheVariants.{Idle, Waiting, H
 use Rattle.ticket_steps.specs.Books.{calls_handled}
 use Rattle.ticket_steps.specs.CoreStates.{CoreState, opening_core}
 use Rattle.ticket_steps.specs.Happenings.{Happening, split, drew, waited, held, posted, post_refused, left_posted, recorded, refused, glanced, gathered}
-use Rattle.ticket_steps.specs.Happenings.{calls_made, turns_ended, turns_ended_by, recordings, IsOfEvent, Moves, Leads, with_seats}
+use Rattle.ticket_steps.specs.Happenings.{calls_made, calls_ended, calls_ended_by, recordings, IsOfEvent, Moves, Leads, with_seats}
 use Rattle.ticket_steps.specs.History.{entry}
 use Rattle.ticket_steps.specs.Lawful.{IsLawful}
 use Rattle.ticket_steps.specs.Schedules.{Schedule, IsSchedule}
-use Rattle.ticket_steps.specs.Seats.{IsSeatAt, Holds, is_present, holder_count_of, tickets_of, waiting_seat, holding_seat, gathered_seat, gone_seat, seat_after_split, other_seat}
-use Rattle.ticket_steps.specs.Seats.{posted_seat, seat_after_turn}
-use Rattle.ticket_steps.specs.Turns.{Turn, IsTurnOf, until_recording, drawn_at, entry_at, GoesOn}
+use Rattle.ticket_steps.specs.Seats.{IsSeatAt, Holds, is_present, holder_count_of, tickets_of, waiting_seat, holding_seat, gathered_seat, gone_seat}
+use Rattle.ticket_steps.specs.Seats.{seat_after_split, other_seat}
+use Rattle.ticket_steps.specs.Seats.{posted_seat, seat_after_leave}
+use Rattle.ticket_steps.specs.RecordedCalls.{RecordedCall, IsRecordedIn, until_recording, drawn_at, entry_at, GoesOn}
 use Rattle.ticket_steps.proofs.LawfulSteps.{lawful_opened}
 use Rattle.ticket_steps.proofs.Lists.{at_same, at_within, at_front, at_middle, set_here, set_else, later_cut, same_cut}
 use Rattle.ticket_steps.proofs.ScheduleLemmas.{recordings-append, count-cons, leads_count, leads_lawful, schedule_lawful, schedule_order}
@@ -56,7 +58,7 @@ no_ticket t own q w idle _ h =
     let n : 0 ≡ 1 = ap (λ (p : Phase). length (tickets_of p)) (sym idle) ∙ ap (λ (ts : List ℕ). length ts) h in absurd (omega (arith, n))
 
 module _ {C R : Type 0} where
-  pub ended_by-cons : (n : ℕ) (h : Happening C R) (hs : List (Happening C R)) → turns_ended_by n (h ∷ hs) ≡ turns_ended_by n (h ∷ []) + turns_ended_by n hs
+  pub ended_by-cons : (n : ℕ) (h : Happening C R) (hs : List (Happening C R)) → calls_ended_by n (h ∷ hs) ≡ calls_ended_by n (h ∷ []) + calls_ended_by n hs
   ended_by-cons n (split own count) hs = omega arith
   ended_by-cons n (drew own ticket) hs = omega arith
   ended_by-cons n (waited own) hs = omega arith
@@ -77,7 +79,7 @@ module _ {C R : Type 0} where
   first_pass [] = 0
   first_pass (e ∷ es) = e.pass
 
--- the seat of a leave is another one, where none of this number's turns ends
+-- the seat of a leave is another one, if no call of this number ends
 apart : (own n : ℕ) → one_if (own == n) + 0 ≡ 0 → own ≢ n
 apart own n h e = omega (arith, h, ap one_if (eq-eqb own n e))
 
@@ -86,7 +88,7 @@ module _ {K C R : Type 0} (k : Ghosts K C R) (draws : ℕ) where
   Core = CoreState k.State C R
 
   -- a seat keeps its ticket until it leaves
-  pub moves_keep : (own t : ℕ) (b c : Core) (h : Happening C R) → Moves k draws b h c → turns_ended_by own (h ∷ []) ≡ 0 → HasTicket b.seats own t
+  pub moves_keep : (own t : ℕ) (b c : Core) (h : Happening C R) → Moves k draws b h c → calls_ended_by own (h ∷ []) ≡ 0 → HasTicket b.seats own t
       → HasTicket c.seats own t
   moves_keep own t b c (split n count) m none has =
       let w = seat_after_split draws count m.1 in
@@ -108,15 +110,15 @@ module _ {K C R : Type 0} (k : Ghosts K C R) (draws : ℕ) where
       (λ is ticket. (is, sym (ap tickets_of m.3.2) ∙ ticket)) has)
   moves_keep own t b c (left_posted n) m none has =
       let other = apart n own none in
-      subst (λ (z : Core). HasTicket z.seats own t) (sym m.4) (kept b.seats own t m.0 m.1 (seat_after_turn m.1) m.3.0
+      subst (λ (z : Core). HasTicket z.seats own t) (sym m.4) (kept b.seats own t m.0 m.1 (seat_after_leave m.1) m.3.0
       (λ is ticket. absurd (other (sym m.3.1 ∙ is))) has)
   moves_keep own t b c (recorded n call reply) m none has =
       let other = apart n own none in
-      subst (λ (z : Core). HasTicket z.seats own t) (sym m.5) (kept b.seats own t m.0 m.1 (seat_after_turn m.1) m.3.0
+      subst (λ (z : Core). HasTicket z.seats own t) (sym m.5) (kept b.seats own t m.0 m.1 (seat_after_leave m.1) m.3.0
       (λ is ticket. absurd (other (sym m.3.1 ∙ is))) has)
   moves_keep own t b c (refused n) m none has =
       let other = apart n own none in
-      subst (λ (z : Core). HasTicket z.seats own t) (sym m.4) (kept b.seats own t m.0 m.1 (seat_after_turn m.1) m.3.0
+      subst (λ (z : Core). HasTicket z.seats own t) (sym m.4) (kept b.seats own t m.0 m.1 (seat_after_leave m.1) m.3.0
       (λ is ticket. absurd (other (sym m.3.1 ∙ is))) has)
   moves_keep own t b c (glanced n place word) m none has = subst (λ (z : Core). HasTicket z.seats own t) (sym m.5) has
   moves_keep own t b c (gathered n other) m none has =
@@ -127,7 +129,7 @@ module _ {K C R : Type 0} (k : Ghosts K C R) (draws : ℕ) where
       (kept (set b.seats m.0 w) own t m.2 m.3 gone_seat (set_else b.seats m.0 m.2 w ne ∙ m.5.0) (no_ticket t own m.3 gone_seat m.5.2)
       (kept b.seats own t m.0 m.1 w m.4.0 (no_ticket t own m.1 w m.4.2) has))
 
-  leads_keep : (own t : ℕ) (b c : Core) (hs : List (Happening C R)) → Leads k draws b hs c → turns_ended_by own hs ≡ 0 → HasTicket b.seats own t
+  leads_keep : (own t : ℕ) (b c : Core) (hs : List (Happening C R)) → Leads k draws b hs c → calls_ended_by own hs ≡ 0 → HasTicket b.seats own t
       → HasTicket c.seats own t
   leads_keep own t b c [] l none has = subst (λ (z : Core). HasTicket z.seats own t) (sym l) has
   leads_keep own t b c (h ∷ hs) l none has =
@@ -257,9 +259,9 @@ module _ {K C R : Type 0} (k : Ghosts K C R) (s : Schedule k.State C R) (is : Is
   leads_over : (hs : List (Happening C R)) → s.happenings ≡ hs → Leads k s.draws start hs s.end
   leads_over hs parts = subst (λ (l : List (Happening C R)). Leads k s.draws start l s.end) parts is.leads
 
-  -- while a seat has its ticket, fewer turns end than there are numbers
+  -- while a seat has its ticket, fewer calls end than there are numbers
   pub schedule_bypass : (own t : ℕ) (before after : List (Happening C R)) → s.happenings ≡ before ++ drew own t ∷ after → (i : ℕ) (p : CoreSeat)
-      → get_elem? s.end.seats i ≡ some p → tickets_of p.phase ≡ t ∷ [] → turns_ended after < s.numbers
+      → get_elem? s.end.seats i ≡ some p → tickets_of p.phase ≡ t ∷ [] → calls_ended after < s.numbers
   schedule_bypass own t before after parts i p at has =
       let cut = leads_split k s.draws start s.end before (drew own t ∷ after) (leads_over _ parts) in
       let b = cut.0 in
@@ -275,55 +277,55 @@ module _ {K C R : Type 0} (k : Ghosts K C R) (s : Schedule k.State C R) (is : Is
   pub schedule_goes_on : (i t : ℕ) (p : CoreSeat) → get_elem? s.end.seats i ≡ some p → p.phase ≡ Waiting t → GoesOn k s.draws s.end
   schedule_goes_on i t p at waits = waits_goes_on k s.draws s.numbers s.end (schedule_lawful k s is) i t p at waits
 
-  module _ (turn : Turn C R) (of_turn : IsTurnOf s.happenings turn) where
+  module _ (made : RecordedCall C R) (is_recorded : IsRecordedIn s.happenings made) where
     abbrev draw : Happening C R
-    draw = drew turn.own turn.ticket
+    draw = drew made.own made.ticket
 
     abbrev rest : List (Happening C R)
-    rest = turn.recording ∷ turn.after
+    rest = made.recording ∷ made.after
 
-    from_draw : s.happenings ≡ turn.before ++ draw ∷ (turn.between ++ rest)
-    from_draw = of_turn.parts ∙ append_assoc turn.before (draw ∷ turn.between) rest
+    from_draw : s.happenings ≡ made.before ++ draw ∷ (made.between ++ rest)
+    from_draw = is_recorded.parts ∙ append_assoc made.before (draw ∷ made.between) rest
 
     -- as many tickets were drawn before it as its ticket says, and as many calls were made before its call
     record Times : Type 0 where
       drawing : CoreState k.State C R
-      led : Leads k s.draws start turn.before drawing
-      ticket : turn.ticket ≡ drawing.next
-      calls : calls_made (until_recording turn) ≡ turn.ticket
+      led : Leads k s.draws start made.before drawing
+      ticket : made.ticket ≡ drawing.next
+      calls : calls_made (until_recording made) ≡ made.ticket
 
     times : Times
     times =
-        let cut = leads_split k s.draws start s.end (until_recording turn) rest (leads_over _ of_turn.parts) in
-        let part = leads_split k s.draws start cut.0 turn.before (draw ∷ turn.between) cut.1 in
-        let seat = drawn k s.draws turn.own turn.ticket part.0 part.2.0 part.2.1 in
-        let has = leads_keep k s.draws turn.own turn.ticket part.2.0 cut.0 turn.between part.2.2 of_turn.not_left
+        let cut = leads_split k s.draws start s.end (until_recording made) rest (leads_over _ is_recorded.parts) in
+        let part = leads_split k s.draws start cut.0 made.before (draw ∷ made.between) cut.1 in
+        let seat = drawn k s.draws made.own made.ticket part.0 part.2.0 part.2.1 in
+        let has = leads_keep k s.draws made.own made.ticket part.2.0 cut.0 made.between part.2.2 is_recorded.not_left
         (seat.0, seat.1, seat.2.0, seat.2.1, ap tickets_of seat.2.2) in
-        let l = leads_lawful k s.draws s.numbers start cut.0 (until_recording turn) start_lawful cut.1 in
-        let made = (leads_count k s.draws start cut.0 (until_recording turn) cut.1).0 in
+        let l = leads_lawful k s.draws s.numbers start cut.0 (until_recording made) start_lawful cut.1 in
+        let before_it = (leads_count k s.draws start cut.0 (until_recording made) cut.1).0 in
         record {
           drawing = part.0;
           led = part.1;
           ticket = part.2.1.4;
           calls = omega (
             arith,
-            made,
-            recorded_at k s.draws s.numbers cut.0 l turn.own turn.ticket has cut.2.0 turn.recording turn.call turn.reply cut.2.1 of_turn.recorded,
+            before_it,
+            recorded_at k s.draws s.numbers cut.0 l made.own made.ticket has cut.2.0 made.recording made.call made.reply cut.2.1 is_recorded.recorded,
           );
         }
 
     -- its entry is the one at its place
-    pub turn_entry : get_elem? s.end.book.entries (entry_at turn) ≡ some (entry turn.own turn.call turn.reply)
-    turn_entry =
-        let all : s.end.book.entries ≡ recordings (until_recording turn) ++ entry turn.own turn.call turn.reply ∷ recordings turn.after =
-        schedule_order k s is ∙ (ap recordings of_turn.parts ∙ (recordings-append (until_recording turn) rest
-        ∙ ap (λ (l : List (Entry C R)). recordings (until_recording turn) ++ l)
-        (recordings-append (turn.recording ∷ []) turn.after ∙ ap (λ (l : List (Entry C R)). l ++ recordings turn.after) of_turn.recorded))) in
-        subst (λ (l : List (Entry C R)). get_elem? l (entry_at turn) ≡ some (entry turn.own turn.call turn.reply)) (sym all)
-        (at_middle (recordings (until_recording turn)) (recordings turn.after) (entry turn.own turn.call turn.reply))
+    pub entry_of_call : get_elem? s.end.book.entries (entry_at made) ≡ some (entry made.own made.call made.reply)
+    entry_of_call =
+        let all : s.end.book.entries ≡ recordings (until_recording made) ++ entry made.own made.call made.reply ∷ recordings made.after =
+        schedule_order k s is ∙ (ap recordings is_recorded.parts ∙ (recordings-append (until_recording made) rest
+        ∙ ap (λ (l : List (Entry C R)). recordings (until_recording made) ++ l)
+        (recordings-append (made.recording ∷ []) made.after ∙ ap (λ (l : List (Entry C R)). l ++ recordings made.after) is_recorded.recorded))) in
+        subst (λ (l : List (Entry C R)). get_elem? l (entry_at made) ≡ some (entry made.own made.call made.reply)) (sym all)
+        (at_middle (recordings (until_recording made)) (recordings made.after) (entry made.own made.call made.reply))
 
   -- the entries stand in the order of the draws
-  pub first_come : (one other : Turn C R) → IsTurnOf s.happenings one → IsTurnOf s.happenings other → drawn_at one < drawn_at other
+  pub first_come : (one other : RecordedCall C R) → IsRecordedIn s.happenings one → IsRecordedIn s.happenings other → drawn_at one < drawn_at other
       → entry_at one < entry_at other
   first_come one other is_one is_other before =
       let a = times one is_one in
