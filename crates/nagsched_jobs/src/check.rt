@@ -142,7 +142,11 @@ pub(crate) fn read_with_fault(alloc: Global, document: &[u8]) -> Result<SetupRea
     match read_document(alloc, document) {
         Ok(tree) => read_tree_with_fault(alloc, tree),
         Err(Fault::Memory) => Err(DriveError::Memory),
-        Err(fault) => Ok(SetupReading::Refused(render_refusal(alloc, Document::Bytes(document), fault)?)),
+        Err(fault) => Ok(SetupReading::Refused(render_refusal(
+            alloc,
+            Document::Bytes(document),
+            fault,
+        )?)),
     }
 }
 
@@ -155,7 +159,11 @@ fn read_tree_with_fault(alloc: Global, tree: Value) -> Result<SetupReading, Driv
     match Setup::read_tree_with_fault(alloc, &tree) {
         Ok(setup) => Ok(SetupReading::Good { setup, tree }),
         Err(Fault::Memory) => Err(DriveError::Memory),
-        Err(fault) => Ok(SetupReading::Refused(render_refusal(alloc, Document::Tree(&tree), fault)?)),
+        Err(fault) => Ok(SetupReading::Refused(render_refusal(
+            alloc,
+            Document::Tree(&tree),
+            fault,
+        )?)),
     }
 }
 
@@ -197,11 +205,7 @@ fn render_summary(alloc: Global, start: u64, setup: &Setup) -> Result<Report, Al
 }
 
 /// The line of a refusal, and the line that explains it over the document.
-fn render_refusal(
-    alloc: Global,
-    document: Document<'_>,
-    fault: Fault,
-) -> Result<Report, AllocError>
+fn render_refusal(alloc: Global, document: Document<'_>, fault: Fault) -> Result<Report, AllocError>
     ensures { IfOk result (λ report.
         IsFaultReport (tree_in document.entry) (view_of fault) report.text.items report.outcome) }
 {
