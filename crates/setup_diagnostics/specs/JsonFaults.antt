@@ -130,9 +130,18 @@ mistake_read before rest = if is_inside_word before rest then mistake.Other
 
 -- the same, after what the bytes alone show
 abbrev pub mistake_at : List ℕ → List ℕ → Mistake
-mistake_at before rest = if first_byte rest == 0 then mistake.Nul
+mistake_at before rest = if first_byte rest == 0 then mistake.ForeignByte
     else (if starts_with nat_eq rest (239 ∷ 187 ∷ 191 ∷ []) then mistake.Mark
     else (if last_byte (trimmed before) == 44 && is_close (first_byte rest) then mistake.TrailingComma else mistake_read before rest))
+
+-- what is wrong in bytes that are UTF-8, by the position at which reading stops
+abbrev pub mistake_in_text : List ℕ → JsonPosition → Mistake
+mistake_in_text bytes u = if list_all is_blank bytes then mistake.Empty
+    else (if u.is_at_end then mistake.End else mistake_at (before_rest bytes (rest_at bytes u)) (rest_at bytes u))
+
+-- the same of any bytes
+abbrev pub mistake_in : List ℕ → JsonPosition → Mistake
+mistake_in bytes u = if is_utf8 bytes then mistake_in_text bytes u else mistake.ForeignByte
 
 -- ---- the words
 
@@ -144,7 +153,9 @@ abbrev pub foreign_byte_text : List ℕ → List ℕ
 foreign_byte_text rest = codes ": the byte " ++ (decimal (first_byte rest) ++ codes " isn't allowed here; save the document as UTF-8")
 
 abbrev pub mistake_text : Mistake → List ℕ → List ℕ
-mistake_text mistake.Nul rest = foreign_byte_text rest
+mistake_text mistake.Empty rest = codes ": the document is empty; it has to be an object"
+mistake_text mistake.End rest = codes ": the document ends before its JSON does; complete it"
+mistake_text mistake.ForeignByte rest = foreign_byte_text rest
 mistake_text mistake.Mark rest = codes ": this is a byte order mark; save the document as UTF-8 without one"
 mistake_text mistake.TrailingComma rest = around (codes ": there is a comma before ") rest (codes "; remove it")
 mistake_text mistake.Surplus rest = around (codes ": the JSON ends before ") rest (codes "; remove what follows")
@@ -154,12 +165,6 @@ mistake_text mistake.Word rest = around (codes ": ") rest (codes " is neither a 
 mistake_text mistake.Separator rest = around (codes ": a comma or a colon is missing before ") rest []
 mistake_text mistake.Other rest = around (codes ": reading stopped at ") rest (codes "; correct this or what is before it")
 
--- why bytes that are UTF-8 aren't JSON, by the position at which reading stops
-abbrev pub stop_text : List ℕ → JsonPosition → List ℕ
-stop_text bytes u = if list_all is_blank bytes then codes ": the document is empty; it has to be an object"
-    else (if u.is_at_end then codes ": the document ends before its JSON does; complete it"
-    else mistake_text (mistake_at (before_rest bytes (rest_at bytes u)) (rest_at bytes u)) (rest_at bytes u))
-
--- the same of any bytes
+-- why these bytes aren't JSON, by the position at which reading stops
 abbrev pub reason_text : List ℕ → JsonPosition → List ℕ
-reason_text bytes u = if is_utf8 bytes then stop_text bytes u else foreign_byte_text (rest_at bytes u)
+reason_text bytes u = mistake_text (mistake_in bytes u) (rest_at bytes u)

@@ -1,15 +1,15 @@
 //! Faults of a document that isn't JSON: what is wrong where reading stops, and what to do about it.
 
 ghost use Rattle.std.specs.Prelude.{◌≡◌, ◌++◌, ◌==◌, ◌<◌, OnOk, IfOk, IfSome, codes, false, is_some, length, not, option_map};
-ghost use Rattle.std.specs.List.{position};
+ghost use Rattle.std.specs.List.{list_all, position};
 ghost use Rattle.std.specs.Str.{is_utf8};
 ghost use Rattle.json.specs.Lex.{tokens};
 ghost use Rattle.setup_reader.specs.JsonTree.{tree_of};
 ghost use Rattle.setup_diagnostics.specs.Feeds.{has_line_feed};
 ghost use Rattle.setup_diagnostics.specs.JsonFaults.{after_feeds, after_index, around, before_index, before_rest, begins_bad, begins_value, ends_value};
 ghost use Rattle.setup_diagnostics.specs.JsonFaults.{first_byte, foreign_byte_text, is_blank, is_close, is_inside_word, is_open, is_unreadable};
-ghost use Rattle.setup_diagnostics.specs.JsonFaults.{is_word_part, last_byte, missing_between, mistake_at, mistake_read, mistake_text, reason_text};
-ghost use Rattle.setup_diagnostics.specs.JsonFaults.{rest_at, shown, start_of, stop_text, text_in, trimmed, unreadable};
+ghost use Rattle.setup_diagnostics.specs.JsonFaults.{is_word_part, last_byte, missing_between, mistake_at, mistake_in, mistake_in_text, mistake_read, mistake_text, reason_text};
+ghost use Rattle.setup_diagnostics.specs.JsonFaults.{rest_at, shown, start_of, text_in, trimmed, unreadable};
 
 use crate::line::{Line, Pushed};
 use json::{Reader, Scratch, Token};
@@ -24,8 +24,12 @@ const BYTE_ORDER_MARK: [u8; 3] = [239, 187, 191];
 /// What is wrong where reading stops, as far as the bytes there show it.
 #[derive(Clone, Copy, Debug, PartialEq, Eq)]
 pub(crate) enum Mistake {
-    /// The byte 0, as in UTF-16.
-    Nul,
+    /// The document has nothing but blanks.
+    Empty,
+    /// The document ends before its JSON does.
+    End,
+    /// A byte that isn't UTF-8, or the byte 0, as in UTF-16.
+    ForeignByte,
     /// A byte order mark.
     Mark,
     /// A comma before what closes an array or an object.
@@ -53,24 +57,8 @@ pub(crate) fn push_json_fault(
 ) -> Pushed
     ensures { OnOk result (line.new ≡ line.old ++ reason_text bytes.now position) }
 {
-    if is_text(bytes) {
-        return push_stop(alloc, line, bytes, position);
-    }
-    push_foreign_byte(line, rest_at(bytes, position))
-}
-
-/// Appends why a document in UTF-8 isn't JSON.
-fn push_stop(alloc: Global, line: &mut Line, bytes: &[u8], position: JsonPosition) -> Pushed
-    ensures { OnOk result (line.new ≡ line.old ++ stop_text bytes.now position) }
-{
-    if bytes.iter().all(|byte| is_blank(*byte)) {
-        return line.push_words(": the document is empty; it has to be an object");
-    }
-    if position.is_at_end {
-        return line.push_words(": the document ends before its JSON does; complete it");
-    }
     let rest = rest_at(bytes, position);
-    let mistake = mistake_at(alloc, before_rest(bytes, rest), rest)?;
+    let mistake = mistake_in(alloc, bytes, position)?;
     push_mistake(line, mistake, rest)
 }
 
@@ -123,13 +111,48 @@ fn before_rest<'a>(bytes: &'a [u8], rest: &[u8]) -> &'a [u8]
 
 // ---- what is wrong there
 
+/// What is wrong in a document, by the position at which reading stops.
+fn mistake_in(alloc: Global, bytes: &[u8], position: JsonPosition) -> Result<Mistake, AllocError>
+    ensures { IfOk result (λ mistake. mistake ≡ mistake_in bytes.now position) }
+{
+    if is_text(bytes) {
+        return mistake_in_text(alloc, bytes, position);
+    }
+    Ok(Mistake::ForeignByte)
+}
+
+/// What is wrong in a document in UTF-8.
+fn mistake_in_text(
+    alloc: Global,
+    bytes: &[u8],
+    position: JsonPosition,
+) -> Result<Mistake, AllocError>
+    ensures { IfOk result (λ mistake. mistake ≡ mistake_in_text bytes.now position) }
+{
+    if is_empty(bytes) {
+        return Ok(Mistake::Empty);
+    }
+    if position.is_at_end {
+        return Ok(Mistake::End);
+    }
+    let rest = rest_at(bytes, position);
+    mistake_at(alloc, before_rest(bytes, rest), rest)
+}
+
+/// Whether the bytes are blanks.
+fn is_empty(bytes: &[u8]) -> bool
+    ensures { result ≡ list_all is_blank bytes.now }
+{
+    bytes.iter().all(|byte| is_blank(*byte))
+}
+
 /// What is wrong between the bytes before the position and the rest.
 fn mistake_at(alloc: Global, before: &[u8], rest: &[u8]) -> Result<Mistake, AllocError>
     ensures { IfOk result (λ mistake. mistake ≡ mistake_at before.now rest.now) }
 {
     let (last, first) = (last_byte(trimmed(before)), first_byte(rest));
     if first == 0 {
-        return Ok(Mistake::Nul);
+        return Ok(Mistake::ForeignByte);
     }
     if rest.starts_with(&BYTE_ORDER_MARK) {
         return Ok(Mistake::Mark);
@@ -231,7 +254,9 @@ fn push_mistake(line: &mut Line, mistake: Mistake, rest: &[u8]) -> Pushed
     ensures { OnOk result (line.new ≡ line.old ++ mistake_text mistake rest.now) }
 {
     match mistake {
-        Mistake::Nul => push_foreign_byte(line, rest),
+        Mistake::Empty => { line.push_words(": the document is empty; it has to be an object") }
+        Mistake::End => { line.push_words(": the document ends before its JSON does; complete it") }
+        Mistake::ForeignByte => push_foreign_byte(line, rest),
         Mistake::Mark => line.push_words(
             ": this is a byte order mark; save the document as UTF-8 without one",
         ),
