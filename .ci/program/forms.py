@@ -9,6 +9,7 @@ one sentence, which is the same in both and on the standard error of a run; thos
 """
 from __future__ import annotations
 
+import contextlib
 import json
 import os
 import random
@@ -19,7 +20,7 @@ from typing import Dict, Iterator, List, NamedTuple, Optional, Set, Tuple
 
 from answers import Members, text_in_words
 from harness import SECONDS, SERVICE, TOP, Harness, input_lines
-from mutated import PAST_64_BITS, mutated
+from mutated import NotJson, is_number, mutated, read
 from cases import cases
 
 # ==== Which refusals are explained, by the letter of their code: those of a setup, of a saved state, of a line, and of a call.
@@ -30,8 +31,6 @@ DOCUMENT, LINE = 16_777_216, 4_096
 SEED, TOGETHER, ALONE = 23, 5_000, 300
 # A refusal of a call that only the library makes.
 OF_THE_LIBRARY = {"C1"}
-# The id at the end of a request, which only --json reads.
-ID = re.compile(rb',[ \t]*\{[ \t]*"id"[ \t]*:[ \t]*(?:"[^"]*"|(\d+))[ \t]*\}[ \t]*(\][ \t\r]*)$')
 MEMBERS = {"line", "answer", "code", "reason"}
 OF_PLACES = {"id", "part", "index"}
 # What is compared, the wanted and the actual value.
@@ -39,9 +38,17 @@ Row = Tuple[str, object, object]
 
 
 def line_without_id(line: bytes) -> bytes:
-    """A line without its id, if the id is one."""
-    found = ID.search(line) if len(line) <= LINE else None
-    return line[: found.start()] + found[2] if found and int(found[1] or 0) < PAST_64_BITS else line
+    """A line without its id, which only --json reads: an object at its end with no other member."""
+    begin = line.rfind(b"{") if len(line) <= LINE else -1
+    while begin > 0:
+        before = line[:begin].rstrip()
+        with contextlib.suppress(NotJson):
+            value = read(b"[" + line[begin:])
+            members = value[0] if len(value) == 1 else None
+            is_id = isinstance(members, dict) and list(members) == ["id"] and (isinstance(members["id"], str) or is_number(members["id"]))
+            return before[:-1] + b"]" if is_id and before.endswith(b",") else line
+        begin = line.rfind(b"{", 0, begin)
+    return line
 
 
 class Input(NamedTuple):
@@ -159,9 +166,10 @@ def rows_of(program: str, input_: Input) -> Tuple[List[Row], Set[str]]:
     """The rows of an input in all forms, and the codes of its refusals."""
     run_json, as_json = (output_of(program, input_, word, "--json") for word in ("run", "live"))
     run, live, explained = (output_of(program, input_.without_ids(), *words) for words in (("run",), ("live",), ("live", "--explain")))
+    codes = set(re.findall(r"^refused ([LKSC]\d+)\b", live.text, re.M))
     try:
         answers = answers_of(as_json.text)
-        codes = {str(answer["code"]) for answer in answers if is_refusal(answer)}
+        codes |= {str(answer["code"]) for answer in answers if is_refusal(answer)}
         lines = with_sentences(explained.text)
         rows: List[Row] = [
             ("live --json in words", live.text, text_in_words(answers)),
@@ -172,7 +180,7 @@ def rows_of(program: str, input_: Input) -> Tuple[List[Row], Set[str]]:
             ("explanations", [answer.get("explanation") for answer in answers], [why for line, why in lines if not line.startswith("object ")]),
             *run_rows(run, run_json, answers)]
     except (ValueError, KeyError) as error:
-        return [("the answers as JSON", None, f"{type(error).__name__}: {error}")], set()
+        return [("the answers as JSON", None, f"{type(error).__name__}: {error}")], codes
     return rows, codes
 
 
