@@ -9,6 +9,7 @@ one sentence, which is the same in both and on the standard error of a run; thos
 """
 from __future__ import annotations
 
+import contextlib
 import json
 import os
 import random
@@ -19,7 +20,7 @@ from typing import Dict, Iterator, List, NamedTuple, Optional, Set, Tuple
 
 from answers import Members, text_in_words
 from harness import SECONDS, SERVICE, TOP, Harness, input_lines
-from mutated import PAST_64_BITS, mutated
+from mutated import NotJson, is_number, mutated, read
 from cases import cases
 
 # ==== Which refusals are explained, by the letter of their code: those of a setup, of a saved state, of a line, and of a call.
@@ -30,8 +31,6 @@ DOCUMENT, LINE = 16_777_216, 4_096
 SEED, TOGETHER, ALONE = 23, 5_000, 300
 # A refusal of a call that only the library makes.
 OF_THE_LIBRARY = {"C1"}
-# The id at the end of a request, which only --json reads.
-ID = re.compile(rb',[ \t]*\{[ \t]*"id"[ \t]*:[ \t]*(?:"[^"]*"|(\d+))[ \t]*\}[ \t]*(\][ \t\r]*)$')
 MEMBERS = {"line", "answer", "code", "reason"}
 OF_PLACES = {"id", "part", "index"}
 # What is compared, the wanted and the actual value.
@@ -39,9 +38,17 @@ Row = Tuple[str, object, object]
 
 
 def line_without_id(line: bytes) -> bytes:
-    """A line without its id, if the id is one."""
-    found = ID.search(line) if len(line) <= LINE else None
-    return line[: found.start()] + found[2] if found and int(found[1] or 0) < PAST_64_BITS else line
+    """A line without its id, which only --json reads: an object at its end with no other member."""
+    begin = line.rfind(b"{") if len(line) <= LINE else -1
+    while begin > 0:
+        before = line[:begin].rstrip()
+        with contextlib.suppress(NotJson):
+            value = read(b"[" + line[begin:])
+            members = value[0] if len(value) == 1 else None
+            is_id = isinstance(members, dict) and list(members) == ["id"] and (isinstance(members["id"], str) or is_number(members["id"]))
+            return before[:-1] + b"]" if is_id and before.endswith(b",") else line
+        begin = line.rfind(b"{", 0, begin)
+    return line
 
 
 class Input(NamedTuple):
