@@ -25,7 +25,7 @@ from cases import cases
 
 # ==== Which refusals are explained, by the letter of their code: those of a setup, of a saved state, of a line, and of a call.
 # ==== If calls are explained too, write "C": True. Nothing else here has to change.
-EXPLAINED = {"L": True, "K": True, "S": True, "C": False}
+EXPLAINED = {"L": True, "K": True, "S": True, "C": True}
 
 DOCUMENT, LINE = 16_777_216, 4_096
 SEED, TOGETHER, ALONE = 23, 5_000, 300
