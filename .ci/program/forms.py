@@ -5,7 +5,7 @@
 
 The inputs are those of the cases of conformance/ that a run or a conversation refuses, as a whole or in one of their lines, others at limits of length, and
 mutated lines. With --json each answer is one object on one line that says what the words say, and --explain leaves the words as they are. Each refusal has
-one sentence, which is the same in both and on the standard error of a run; those that `EXPLAINED` leaves out have none. Exit statuses are those of the words.
+one sentence, which is the same in both and on the standard error of a run. Exit statuses are those of the words.
 """
 from __future__ import annotations
 
@@ -22,10 +22,6 @@ from answers import Members, text_in_words
 from harness import SECONDS, SERVICE, TOP, Harness, input_lines
 from mutated import NotJson, is_number, mutated, read
 from cases import cases
-
-# ==== Which refusals are explained, by the letter of their code: those of a setup, of a saved state, of a line, and of a call.
-# ==== If calls are explained too, write "C": True. Nothing else here has to change.
-EXPLAINED = {"L": True, "K": True, "S": True, "C": True}
 
 DOCUMENT, LINE = 16_777_216, 4_096
 SEED, TOGETHER, ALONE = 23, 5_000, 300
@@ -141,10 +137,10 @@ def silent_or_wrong(answers: List[Members]) -> List[Members]:
     """The answers whose explanation or members aren't as they should be: those that aren't refusals have no explanation."""
     wrong = []
     for answer in answers:
-        is_explained = is_refusal(answer) and EXPLAINED[answer["code"][0]]
+        is_refused = is_refusal(answer)
         sentence = answer.get("explanation")
-        has_members = not is_refusal(answer) or set(answer) - OF_PLACES - {"explanation"} == MEMBERS and type(answer["line"]) is int
-        if not has_members or is_explained != isinstance(sentence, str) or is_explained and (not sentence or "\n" in sentence):
+        has_members = not is_refused or set(answer) - OF_PLACES - {"explanation"} == MEMBERS and type(answer["line"]) is int
+        if not has_members or is_refused != isinstance(sentence, str) or is_refused and (not sentence or "\n" in sentence):
             wrong.append(answer)
     return wrong
 
