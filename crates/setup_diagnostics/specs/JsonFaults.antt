@@ -1,4 +1,4 @@
--- Why a document isn't JSON: what is wrong where reading stops, and what to do about it.
+-- Why a document isn't JSON: the mistake where reading stops, and what to do about it.
 use Rattle.std.specs.Prelude.{ℕ, ◌-◌, ◌+◌, zero, suc, ◌==◌, ◌&&◌, ◌||◌, Bool, true, false, not, List, [], ◌∷◌, ◌++◌, Option, Some, None, codes, decimal, drop}
 use Rattle.std.specs.Prelude.{get_or, is_some, length, nat_eq, take, if◌then◌else◌}
 use Rattle.std.specs.Char.{is_ascii_whitespace}
@@ -101,18 +101,18 @@ abbrev pub is_unreadable : Option (List ℕ) → Bool
 is_unreadable None = false
 is_unreadable (Some text) = begins_bad (tokens text)
 
--- ---- what is wrong there
+-- ---- the mistake there
 
 -- what is unreadable and begins with this byte
 abbrev pub unreadable : ℕ → Mistake
 unreadable b = if b == 34 then mistake.Text else (if b == 35 || b == 47 then mistake.Comment
     else (if is_word_part b then mistake.Word else mistake.Other))
 
--- what is wrong before a value or a name that can be read, by the last byte before it and its first
+-- the mistake before a value or a name that can be read, by the last byte before it and its first
 abbrev pub missing_between : ℕ → ℕ → Mistake
 missing_between last first = if ends_value last && begins_value first then mistake.Separator else mistake.Other
 
--- what is wrong between the bytes before the position and the rest, by their readings: whether the former are a whole document, and whether no token
+-- the mistake between the bytes before the position and the rest, by their readings: whether the former are a whole document, and whether no token
 -- can be read at the front of the latter
 abbrev pub mistake_by : Bool → Bool → ℕ → ℕ → Mistake
 mistake_by true is_bad last first = mistake.Surplus
@@ -123,7 +123,7 @@ mistake_by false false last first = missing_between last first
 abbrev pub is_inside_word : List ℕ → List ℕ → Bool
 is_inside_word before rest = is_word_part (last_byte before) && is_word_part (first_byte rest)
 
--- what is wrong between the bytes before the position and the rest
+-- the mistake between the bytes before the position and the rest
 abbrev pub mistake_read : List ℕ → List ℕ → Mistake
 mistake_read before rest = if is_inside_word before rest then mistake.Other
     else mistake_by (is_some (tree_of before)) (is_unreadable (text_in rest)) (last_byte (trimmed before)) (first_byte rest)
@@ -134,7 +134,7 @@ mistake_at before rest = if first_byte rest == 0 then mistake.ForeignByte
     else (if starts_with nat_eq rest (239 ∷ 187 ∷ 191 ∷ []) then mistake.Mark
     else (if last_byte (trimmed before) == 44 && is_close (first_byte rest) then mistake.TrailingComma else mistake_read before rest))
 
--- what is wrong in bytes that are UTF-8, by the position at which reading stops
+-- the mistake in bytes that are UTF-8, by the position at which reading stops
 abbrev pub mistake_in_text : List ℕ → JsonPosition → Mistake
 mistake_in_text bytes u = if list_all is_blank bytes then mistake.Empty
     else (if u.is_at_end then mistake.End else mistake_at (before_rest bytes (rest_at bytes u)) (rest_at bytes u))

@@ -16,7 +16,7 @@ use Rattle.setup_diagnostics.specs.Excerpts.{quotation}
 use Rattle.setup_diagnostics.specs.Places.{member_text, role_text}
 use Rattle.setup_diagnostics.specs.Shapes.{missing_text, unknown_name_text, Appends, IsKindFault}
 
--- ---- what is wrong with an object of JSON, by the table of its members
+-- ---- the fault of an object of JSON, by the table of its members
 
 pub data MemberFault : Type 0 where
   no_object : MemberFault

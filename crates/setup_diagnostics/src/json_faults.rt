@@ -1,4 +1,4 @@
-//! Faults of a document that isn't JSON: what is wrong where reading stops, and what to do about it.
+//! Faults of a document that isn't JSON: the mistake where reading stops, and what to do about it.
 
 ghost use Rattle.std.specs.Prelude.{◌≡◌, ◌++◌, ◌==◌, ◌<◌, OnOk, IfOk, IfSome, codes, false, is_some, length, not, option_map};
 ghost use Rattle.std.specs.List.{list_all, position};
@@ -8,8 +8,8 @@ ghost use Rattle.setup_reader.specs.JsonTree.{tree_of};
 ghost use Rattle.setup_diagnostics.specs.Feeds.{has_line_feed};
 ghost use Rattle.setup_diagnostics.specs.JsonFaults.{after_feeds, after_index, around, before_index, before_rest, begins_bad, begins_value, ends_value};
 ghost use Rattle.setup_diagnostics.specs.JsonFaults.{first_byte, foreign_byte_text, is_blank, is_close, is_inside_word, is_open, is_unreadable};
-ghost use Rattle.setup_diagnostics.specs.JsonFaults.{is_word_part, last_byte, missing_between, mistake_at, mistake_in, mistake_in_text, mistake_read, mistake_text, reason_text};
-ghost use Rattle.setup_diagnostics.specs.JsonFaults.{rest_at, shown, start_of, text_in, trimmed, unreadable};
+ghost use Rattle.setup_diagnostics.specs.JsonFaults.{is_word_part, last_byte, missing_between, mistake_at, mistake_in, mistake_in_text};
+ghost use Rattle.setup_diagnostics.specs.JsonFaults.{mistake_read, mistake_text, reason_text, rest_at, shown, start_of, text_in, trimmed, unreadable};
 
 use crate::line::{Line, Pushed};
 use json::{Reader, Scratch, Token};
@@ -21,7 +21,7 @@ use std::str::from_utf8;
 /// The bytes of a byte order mark in UTF-8.
 const BYTE_ORDER_MARK: [u8; 3] = [239, 187, 191];
 
-/// What is wrong where reading stops, as far as the bytes there show it.
+/// The mistake where reading stops, as far as the bytes there show it.
 #[derive(Clone, Copy, Debug, PartialEq, Eq)]
 pub(crate) enum Mistake {
     /// The document has nothing but blanks.
@@ -109,9 +109,9 @@ fn before_rest<'a>(bytes: &'a [u8], rest: &[u8]) -> &'a [u8]
     &bytes[..count]
 }
 
-// ---- what is wrong there
+// ---- the mistake there
 
-/// What is wrong in a document, by the position at which reading stops.
+/// The mistake in a document, by the position at which reading stops.
 fn mistake_in(alloc: Global, bytes: &[u8], position: JsonPosition) -> Result<Mistake, AllocError>
     ensures { IfOk result (λ mistake. mistake ≡ mistake_in bytes.now position) }
 {
@@ -121,7 +121,7 @@ fn mistake_in(alloc: Global, bytes: &[u8], position: JsonPosition) -> Result<Mis
     Ok(Mistake::ForeignByte)
 }
 
-/// What is wrong in a document in UTF-8.
+/// The mistake in a document in UTF-8.
 fn mistake_in_text(
     alloc: Global,
     bytes: &[u8],
@@ -146,7 +146,7 @@ fn is_empty(bytes: &[u8]) -> bool
     bytes.iter().all(|byte| is_blank(*byte))
 }
 
-/// What is wrong between the bytes before the position and the rest.
+/// The mistake between the bytes before the position and the rest.
 fn mistake_at(alloc: Global, before: &[u8], rest: &[u8]) -> Result<Mistake, AllocError>
     ensures { IfOk result (λ mistake. mistake ≡ mistake_at before.now rest.now) }
 {
@@ -163,7 +163,7 @@ fn mistake_at(alloc: Global, before: &[u8], rest: &[u8]) -> Result<Mistake, Allo
     mistake_read(alloc, before, rest)
 }
 
-/// What is wrong there if the bytes alone don't show it.
+/// The mistake there if the bytes alone don't show it.
 fn mistake_read(alloc: Global, before: &[u8], rest: &[u8]) -> Result<Mistake, AllocError>
     ensures { IfOk result (λ mistake. mistake ≡ mistake_read before.now rest.now) }
 {
@@ -249,7 +249,7 @@ fn unreadable(first: u8) -> Mistake
 
 // ---- the words
 
-/// Appends what is wrong where the rest begins, and what to do about it.
+/// Appends the mistake where the rest begins, and what to do about it.
 fn push_mistake(line: &mut Line, mistake: Mistake, rest: &[u8]) -> Pushed
     ensures { OnOk result (line.new ≡ line.old ++ mistake_text mistake rest.now) }
 {

@@ -30,8 +30,8 @@ pub fn members_are_read_by_their_kinds()
         → slice_get ms i ≡ Some m → get m.name d ≡ Some value → IsReadAs m.kind m d value }
 {}
 
-/// Where a saved state is refused for its shape, its explanation has a fault to tell: of the saved state itself, or of
-/// the object at the index of the refusal.
+/// If a saved state is refused for its shape, there is a fault that its explanation names: one of the saved state
+/// itself, or one of the object at the index of the refusal.
 pub fn each_refusal_of_a_shape_has_a_fault()
     ensures { (tree : Data) → (index : Option ℕ) → draft_in tree ≡ Err (SavedFault.Shape index)
         → is_some (saved_shape_fault tree index) ≡ true }

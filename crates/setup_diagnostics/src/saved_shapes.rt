@@ -21,7 +21,7 @@ use check_saved_state::{FORMAT, format_of, has_kind, is_known};
 use serde_json::{Map, Value};
 use std::alloc::Global;
 
-/// What is wrong with an object of JSON, by the table of its members.
+/// The fault of an object of JSON, by the table of its members.
 #[derive(Clone, Copy)]
 pub(crate) enum MemberFault<'v> {
     /// The value isn't an object.

@@ -1,4 +1,4 @@
-use Rattle.std.proofs.Common.{◌∙◌, Some, String, Global, Option, ap, string_bytes, sym}
+use Rattle.std.proofs.Common.{◌∙◌, Some, String, Global, Option, ap, string_bytes}
 use Rattle.std.specs.Prelude.{option_map}
 use Rattle.setup_diagnostics.proofs.SavedKeyLemmas.{unknown_seen}
 use Rattle.setup_diagnostics.proofs.saved_shapes.first_unknown.Goals as goal
