@@ -121,6 +121,14 @@ func codeOf(command string) int {
 	return unknown
 }
 
+// quiet is the time until the next check, at most the longest wait.
+func quiet(nextCheck *int64) time.Duration {
+	if nextCheck == nil || *nextCheck-now() > longest.Milliseconds() {
+		return longest
+	}
+	return time.Duration(*nextCheck-now()) * time.Millisecond
+}
+
 // takeAll starts the plugins that are due and have a slot. It returns their number, and how long nothing else is due.
 func takeAll(scheduler *Scheduler, commands map[string]string, free int, results chan<- Result) (int, time.Duration, error) {
 	for started := 0; started < free; {
@@ -128,13 +136,13 @@ func takeAll(scheduler *Scheduler, commands map[string]string, free int, results
 		switch {
 		case err != nil:
 			return started, 0, err
+		case taken.Answer == "refused":
+			return started, 0, errors.New(taken.Explanation)
 		case taken.Answer == "taken":
 			started++
 			go func() { results <- Result{taken, codeOf(commands[taken.Name])} }()
-		case taken.Answer != "putoff" && taken.NextCheck != nil:
-			return started, time.Duration(*taken.NextCheck-now()) * time.Millisecond, nil
 		case taken.Answer != "putoff":
-			return started, longest, nil
+			return started, quiet(taken.NextCheck), nil
 		}
 	}
 	return free, longest, nil
@@ -159,11 +167,11 @@ func monitor(scheduler *Scheduler, commands map[string]string, stop <-chan struc
 	results, running, wait := make(chan Result, slots), 0, longest
 	for stop != nil || running > 0 {
 		if stop != nil {
-			started, quiet, err := takeAll(scheduler, commands, slots-running, results)
+			started, pause, err := takeAll(scheduler, commands, slots-running, results)
 			if err != nil {
 				return err
 			}
-			running, wait = running+started, quiet
+			running, wait = running+started, pause
 		}
 		select {
 		case result := <-results:
@@ -173,7 +181,7 @@ func monitor(scheduler *Scheduler, commands map[string]string, stop <-chan struc
 			}
 		case <-time.After(wait):
 		case <-stop:
-			stop = nil
+			stop, wait = nil, longest
 		}
 	}
 	return nil

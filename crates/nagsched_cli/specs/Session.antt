@@ -56,7 +56,8 @@ DrillNoted start workers room ended io noted = (drill : DrillEnded start workers
 abbrev pub IsSilent : Result Outcome DriveError → List ℕ → Type 0
 IsSilent ended noted = OnOk ended (noted ≡ [])
 
--- The effects of a job that ended like this, with or without a fault, and what it noted. The function of the job states them. Only a run and a drill have a note.
+-- The effects of a job that ended like this, with or without a fault, and what it noted. The function of the job states them. Only a run and a drill have
+-- a note.
 abbrev pub JobEnded : Job → Result Outcome DriveError → Streams → List ℕ → Type 0
 JobEnded (job.Run how form) ended io noted = RunNoted form how ended io noted
 JobEnded (job.Live how form) ended io noted = ConversationEnded form how ended io × IsSilent ended noted

@@ -25,7 +25,7 @@ use Rattle.check_sched.specs.ReplyTable as row
 use Rattle.check_sched.specs.ReplyTable.{row_of}
 use Rattle.nagsched_handles.specs.declared.kinds.TheConstants.{CALL_TAKE, CALL_REPORT, CALL_ABANDON, CALL_RESCHEDULE, CALL_ENABLE, CALL_STATUS}
 use Rattle.nagsched_handles.specs.declared.kinds.TheConstants.{REPLY_TAKEN, REPLY_PUT_OFF, REPLY_IDLE, REPLY_AT_LIMIT, REPLY_STANDING, REPLY_FREED, REPLY_DONE}
-use Rattle.nagsched_handles.specs.declared.kinds.TheConstants.{REPLY_UNKNOWN_OBJECT, REPLY_TIME_RANGE, REPLY_NOT_RUNNING, REPLY_WRONG_RUN, REPLY_RUNS_SPENT}
+use Rattle.nagsched_handles.specs.declared.kinds.TheConstants.{REPLY_UNKNOWN_OBJECT, REPLY_TIME_RANGE, REPLY_NOT_RUNNING, REPLY_WRONG_RUN}
 use Rattle.nagsched_handles.specs.declared.structs.CStanding.{CStanding}
 use Rattle.nagsched_handles.specs.declared.structs.CCall.{CCall}
 use Rattle.nagsched_handles.specs.declared.structs.CReply.{CReply}
@@ -94,8 +94,24 @@ with_time time r = record {
 
 -- A reply with this field of a row. The struct doesn't name the object that the call asked for, and its kind says why a call was refused.
 abbrev pub with_field : row.Field → CReply → CReply
-with_field (row.run n) r = record { kind = r.kind; object = r.object; run = n; time = r.time; has_time = r.has_time; changed = r.changed; standing = r.standing }
-with_field (row.object i) r = record { kind = r.kind; object = i; run = r.run; time = r.time; has_time = r.has_time; changed = r.changed; standing = r.standing }
+with_field (row.run n) r = record {
+  kind = r.kind;
+  object = r.object;
+  run = n;
+  time = r.time;
+  has_time = r.has_time;
+  changed = r.changed;
+  standing = r.standing;
+}
+with_field (row.object i) r = record {
+  kind = r.kind;
+  object = i;
+  run = r.run;
+  time = r.time;
+  has_time = r.has_time;
+  changed = r.changed;
+  standing = r.standing;
+}
 with_field row.asked_object r = r
 with_field (row.next_check next) r = with_time next r
 with_field (row.standing s changed) r = record {

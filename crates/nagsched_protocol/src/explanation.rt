@@ -23,7 +23,7 @@ use std::alloc::{AllocError, Global};
 /// explained by a check, which it names. Texts are shown as JSON strings of at most 80 characters. The
 /// only error is out of memory. The words are this project's own.
 #[tactic(auto, unfolding(crate::specs::Explanation::sentence))]
-pub fn explain_refusal(
+pub(crate) fn explain_refusal(
     alloc: Global,
     bytes: &[u8],
     refusal: InputRefusal,

@@ -56,7 +56,6 @@ pub use command::RunCommand;
 pub use drill_command::DrillCommand;
 pub use drill_script::DrillScript;
 pub use drive_error::DriveError;
-pub use explanation::explain_refusal;
 pub use input::{Lines, MAX_READ_BYTES, read_at_most, split_line};
 pub use json_text::Head;
 pub use line::Command;
@@ -76,6 +75,6 @@ pub use refusal::{
 };
 pub use refusal_text::push_refusal;
 pub use request::{Request, RequestId};
-pub use script::{MAX_INPUT_BYTES, Script, read_saved, read_setup, refused_bytes, test_requests};
+pub use script::{MAX_INPUT_BYTES, Script, read_saved, read_setup, test_requests};
 pub use start::{Start, moment_of, open, resume};
 pub use text::{Pushed, REPLY_BYTES, push_entry, push_reply, push_total};

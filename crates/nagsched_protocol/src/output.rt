@@ -97,7 +97,7 @@ pub fn refuse_as<W: Write>(
 
 /// Writes the refusal of an input in this form, and appends the sentence that explains it to the note. Nothing is
 /// flushed. The error is `Write`, and a prefix of the refusal was written then, or `Memory`, and nothing was
-/// written.
+/// written. After an error the note may already have the sentence.
 pub fn refuse_input<W: Write>(
     alloc: Global,
     form: AnswerForm,
@@ -175,7 +175,7 @@ fn push_explained(text: &mut String, sentence: &str) -> Pushed
 
 /// Appends the line of the reply to the call in the line with this number, like [`push_reply`]. If the call
 /// was refused, a second line explains why. If the text has room for `REPLY_BYTES` more, out of memory comes
-/// only after a refused call.
+/// only after a refused call. After an error the text may have a part of the lines.
 pub fn push_explained_reply(
     alloc: Global,
     text: &mut String,

@@ -178,7 +178,7 @@ fn test_lines(alloc: Global, setup: &Setup, bytes: &[u8], first: usize) -> Resul
 
 /// The bytes of the line that is refused. Of a refused setup or saved state, and of an input that is too
 /// long, there are none.
-pub fn refused_bytes(input: &[u8], refusal: InputRefusal) -> &[u8]
+pub(crate) fn refused_bytes(input: &[u8], refusal: InputRefusal) -> &[u8]
     ensures { result.now ≡ refused_bytes input.now refusal }
 {
     match refusal {

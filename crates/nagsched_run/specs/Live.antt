@@ -47,8 +47,8 @@ live_outcome how input = outcome_by (beginning_of how input)
 -- The bytes that were read for this beginning: all of them or, if the beginning is refused, no more than show the refusal. `after` gives the part of
 -- the bytes read that comes after the setup document.
 abbrev pub ReadOver : (List ℕ → List ℕ) → Result Beginning InputRefusal → Option (List ℕ) → Option (List ℕ) → List ℕ → Type 0
-ReadOver behind (Ok b) had left bytes = Consumes had left bytes
-ReadOver behind (Err e) had left bytes = (bytes_read : List ℕ) × Consumes had left bytes_read × IsBoundedReading SAVED_PREFIX_BYTES (behind bytes_read)
+ReadOver after (Ok b) had left bytes = Consumes had left bytes
+ReadOver after (Err e) had left bytes = (bytes_read : List ℕ) × Consumes had left bytes_read × IsBoundedReading SAVED_PREFIX_BYTES (after bytes_read)
 
 -- the same for an input with this setup
 abbrev pub ReadBy : Start → Result Configuration LoadError → Option (List ℕ) → Option (List ℕ) → List ℕ → Type 0
@@ -138,7 +138,8 @@ saved_at_start bytes = with_saved_refusal (saved_of_text (first_line_of bytes))
 
 -- How a conversation ended after a setup, with these bytes in the buffer. Some bytes came, and none if nothing may follow. For all bytes together it
 -- answered the lines or refused the saved state, and wrote its text. After an error it wrote a prefix of this text.
-pub record IsContinuation (form : AnswerForm) (how : Start) (c : Configuration) (may_follow : Bool) (buffered : List ℕ) (ended : Result Outcome LiveError) (io : Streams) : Type 0 where
+pub record IsContinuation (form : AnswerForm) (how : Start) (c : Configuration) (may_follow : Bool) (buffered : List ℕ)
+    (ended : Result Outcome LiveError) (io : Streams) : Type 0 where
   pub coming : List ℕ
   pub is_input : IsInput io.had coming
   pub short : may_follow ≡ false → coming ≡ []

@@ -1,7 +1,7 @@
 use Rattle.std.proofs.Common.{ℕ, List, ◌∷◌, [], ◌++◌, ◌∙◌, ap}
 use Rattle.std.specs.Prelude.{codes}
 use Rattle.std.proofs.lemmas.Result.{on_ok_weaker}
-use Rattle.json.specs.Token.{Token, key, string}
+use Rattle.json.specs.Token.{key, string}
 use Rattle.nagsched_protocol.proofs.json_text.put_explanation.Goals as goal
 
 pub returns-in-Some : goal.returns-in-Some
