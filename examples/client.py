@@ -34,7 +34,7 @@ def main(program: str = "nagsched") -> None:
     setup, *lines = sys.stdin
     requests = [json.loads(line) for line in lines if line.strip()]
     for request, answer in zip(requests, ask_all(program, setup, requests)):
-        print(json.dumps(request), answer.get("explanation") or answer["answer"], answer.get("name", ""))
+        print(json.dumps(request), answer["answer"], answer.get("explanation") or answer.get("name", ""))
 
 
 if __name__ == "__main__":

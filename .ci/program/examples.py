@@ -12,6 +12,7 @@ import pathlib
 import subprocess
 import sys
 import tempfile
+import threading
 from harness import EXAMPLES, Harness
 import needs
 
@@ -34,8 +35,9 @@ requests = [line for line in office.decode().splitlines()[1:] if line]
 answers = [line.split(" ") for line in (EXAMPLES / "office.out").read_text(encoding="utf-8").splitlines()]
 printed, status = client_output(harness, [sys.executable, EXAMPLES / "client.py"], office)
 harness.compare("client.py: the first word of each answer", ([words[0] for words in answers], 0), ([line.split("] ")[1].split(" ")[0] for line in printed], status))
-WHY = 'line 1: the setup is refused; give this line to "nagsched check" to see why'
-harness.compare("client.py: a refused setup", ([f'["take", 0] {WHY} '] * 2, 0), client_output(harness, [sys.executable, EXAMPLES / "client.py"], b'{}}\n["take",0]\n["take",0]\n'))
+WHY = 'line 1: the setup isn\'t JSON; give it to "nagsched check" to see why, or to "nagsched check --line" to have it on one line'
+REFUSED = 'line 1: the setup is refused; give this line to "nagsched check" to see why'
+harness.compare("client.py: a refused setup", ([f'["take", 0] refused {WHY}'] * 2, 0), client_output(harness, [sys.executable, EXAMPLES / "client.py"], b'{}}\n["take",0]\n["take",0]\n'))
 if needs.is_here("examples", "node"):
     harness.compare("client.mjs", (["a UP 300000", "b UP 300000"], 0), client_output(harness, ["node", EXAMPLES / "client.mjs"]))
 
@@ -56,11 +58,14 @@ def loop_rows(harness, folder):
     setup.write_text(json.dumps({"options": options, "hosts": [{"name": "a", "max_check_attempts": 3}, {"name": "b", "max_check_attempts": 3}]}, indent=1))
     commands.write_text(json.dumps({"a": "exit 2", "b": "true"}))
     with subprocess.Popen([loop, setup, commands, harness.program], stdin=subprocess.PIPE, stdout=subprocess.PIPE, stderr=subprocess.PIPE, text=True) as live:
+        limit = threading.Timer(60, live.kill)
+        limit.start()
         line = live.stdout.readline()
         harness.compare("monitor.go: a change", "a is DOWN SOFT 1\n", line.partition(" ")[2])
-        harness.compare("monitor.go: the end of its input", (("", ""), 0), (live.communicate(timeout=60), live.returncode))
+        harness.compare("monitor.go: the end of its input", (("", ""), 0), (live.communicate(), live.returncode))
+        limit.cancel()
     setup.write_text('{"hosts":5}')
-    for program, why in ((harness.program, WHY), ("/bin/true", "/bin/true gives no answer: EOF"),
+    for program, why in ((harness.program, REFUSED), ("/bin/true", "/bin/true gives no answer: EOF"),
                          ("/no/such", "fork/exec /no/such: no such file or directory: name the program nagsched as the third argument")):
         ran = subprocess.run([loop, setup, commands, program], stdin=subprocess.DEVNULL, stdout=subprocess.PIPE, stderr=subprocess.PIPE, text=True, timeout=60)
         harness.compare(f"monitor.go: {why}", ("", f"monitor: {why}\n", 1), (ran.stdout, ran.stderr, ran.returncode))

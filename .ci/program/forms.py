@@ -106,8 +106,11 @@ def inputs() -> Iterator[Input]:
 
 
 def output_of(program: str, input_: Input, *words: str) -> Output:
-    ran = subprocess.run([program, *words, *input_.options], input=input_.given, capture_output=True, timeout=SECONDS, check=False)
-    return Output(ran.stdout.decode(), ran.stderr.decode(), ran.returncode)
+    try:
+        ran = subprocess.run([program, *words, *input_.options], input=input_.given, capture_output=True, timeout=SECONDS, check=False)
+    except subprocess.TimeoutExpired:
+        return Output("", f"it doesn't end within {SECONDS} seconds", -1)
+    return Output(ran.stdout.decode(errors="replace"), ran.stderr.decode(errors="replace"), ran.returncode)
 
 
 def answers_of(text: str) -> List[Members]:
@@ -121,7 +124,7 @@ def answers_of(text: str) -> List[Members]:
 def with_sentences(text: str) -> List[Tuple[str, Optional[str]]]:
     """The lines of an output with explanations, each with the explanation that follows it."""
     lines: List[Tuple[str, Optional[str]]] = []
-    for line in text.splitlines():
+    for line in text.removesuffix("\n").split("\n") if text else []:
         if line.startswith("explained ") and lines and lines[-1][1] is None:
             lines[-1] = lines[-1][0], line.removeprefix("explained ")
         else:

@@ -23,6 +23,7 @@ from cases import cases
 
 TAKE = b'["take",0]\n'
 SAVE = b'["save"]\n'
+NO_JSON = 'line 1: the setup isn\'t JSON; give it to "nagsched check" to see why, or to "nagsched check --line" to have it on one line'
 DOCUMENT, WHOLE_INPUT = 16_777_216, 67_108_864
 SECONDS = 20
 
@@ -257,8 +258,8 @@ def explained_runs(harness):
     """A run says on standard error why its input is refused, and writes its refusal on standard output as ever. Nothing else is said there."""
     saved = saved_state(harness)
     for what, words, given, line, sentence in [
-        ("a refused setup", [], b"{}}\n", "L1 NotJson", 'line 1: the setup is refused; give this line to "nagsched check" to see why'),
-        ("no input", [], b"", "L1 NotJson", 'line 1: the setup is refused; give this line to "nagsched check" to see why'),
+        ("a refused setup", [], b"{}}\n", "L1 NotJson", NO_JSON),
+        ("no input", [], b"", "L1 NotJson", NO_JSON),
         ("a refused saved state", ["--resume"], SERVICE + b"[]\n", "K4 Shape",
          'line 2: the saved state is refused; give lines 1 and 2 to "nagsched check --resume" to see why'),
         ("a refused line", [], SERVICE + TAKE + b'\n["take",0.5]\n[]\n', "S3 Shape 4",
@@ -285,7 +286,7 @@ def explained_runs(harness):
 def explained_drills(harness):
     """A drill does the same."""
     for what, given, line, sentence in [
-        ("a refused setup", b"{}}\n", "L1 NotJson", 'line 1: the setup is refused; give this line to "nagsched check" to see why'),
+        ("a refused setup", b"{}}\n", "L1 NotJson", NO_JSON),
         ("a command of a run", SERVICE + TAKE, "S3 Shape 2", 'line 2: the name of the command is "take"; it has to be "plugin" or "moment"'),
         ("a code", SERVICE + b'\n["plugin","h",0,4]\n[]\n', "S4 Code 3", 'line 3: value 3 of "plugin" is 4; it has to be a whole number from 0 to 3'),
         ("no codes", SERVICE + b'["plugin","h"]\n', "S3 Shape 2", 'line 2: the number of values of "plugin" is 1; it has to be at least 2'),

@@ -33,7 +33,7 @@ time_fault time = codes "the time is " ++ (decimal time ++ codes "; it has to be
 
 -- the object with this name has no run with this number
 abbrev pub run_fault : List ℕ → List ℕ → ℕ → List ℕ
-run_fault name words run = quotation name ++ (words ++ (codes "; its run " ++ (decimal run ++ codes " has ended, or never began")))
+run_fault name words run = quotation name ++ (words ++ (codes "; its run " ++ (decimal run ++ codes " has ended, or never began; nothing is left to do")))
 
 abbrev pub call_fault : Configuration → Call → Refusal → List ℕ
 call_fault c asked refused.UnknownObject = codes "the setup has no object with this number"

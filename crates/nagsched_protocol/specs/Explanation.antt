@@ -6,6 +6,8 @@ use Rattle.json.specs.Lex.{tokens}
 use Rattle.json.specs.Token.{Token, begin_object, end_object, begin_array, end_array, key, string, number, boolean, null, bad}
 use Rattle.setup_diagnostics.specs.Excerpts.{excerpt, quotation}
 use Rattle.setup_diagnostics.specs.Places.{role_text}
+use Rattle.setup_model.specs.declared.error.LoadError.{LoadError}
+use Rattle.setup_model.specs.declared.error.LoadError.TheVariants as load
 use Rattle.nagsched_protocol.specs.declared.refusal.InputRefusal.{InputRefusal}
 use Rattle.nagsched_protocol.specs.declared.refusal.InputRefusal.TheVariants as refusal
 use Rattle.nagsched_protocol.specs.declared.refusal.LineFault.{LineFault}
@@ -163,14 +165,17 @@ fault_text line n fault.UnknownName = value_fault (line_tokens line) 1 (codes "t
 abbrev pub line_place : ℕ → List ℕ
 line_place n = if n == 0 then codes "the input" else codes "line " ++ decimal n
 
-abbrev pub setup_sentence : List ℕ
-setup_sentence = codes "line 1: the setup is refused; give this line to \"nagsched check\" to see why"
+-- a setup that was refused for this error; one that is on several lines isn't JSON on the first
+abbrev pub setup_sentence : LoadError → List ℕ
+setup_sentence load.NotJson =
+    codes "line 1: the setup isn't JSON; give it to \"nagsched check\" to see why, or to \"nagsched check --line\" to have it on one line"
+setup_sentence other = codes "line 1: the setup is refused; give this line to \"nagsched check\" to see why"
 
 abbrev pub saved_sentence : List ℕ
 saved_sentence = codes "line 2: the saved state is refused; give lines 1 and 2 to \"nagsched check --resume\" to see why"
 
 -- the sentence that explains a refusal, by the bytes of the refused line
 unfoldable pub sentence : List ℕ → InputRefusal → List ℕ
-sentence line (refusal.Setup e) = setup_sentence
+sentence line (refusal.Setup e) = setup_sentence e
 sentence line (refusal.Saved e) = saved_sentence
 sentence line (refusal.Line f n) = line_place n ++ fault_text line n f

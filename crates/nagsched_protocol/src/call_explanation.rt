@@ -93,7 +93,7 @@ fn push_run_fault(line: &mut Line, name: &str, words: &str, run: u64) -> Pushed
     line.push_words(words)?;
     line.push_words("; its run ")?;
     line.push_number(run)?;
-    line.push_words(" has ended, or never began")
+    line.push_words(" has ended, or never began; nothing is left to do")
 }
 
 /// The time that a call gives, or 0 if it gives none.

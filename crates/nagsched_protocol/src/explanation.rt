@@ -7,12 +7,13 @@ ghost use Rattle.setup_diagnostics.specs.Feeds.{has_line_feed, HasNoLineFeed};
 ghost use Rattle.setup_diagnostics.specs.Places.{role_text};
 ghost use Rattle.nagsched_protocol.specs.Explanation.{are_value, count_fault, fault_text, first_text, is_bad, item_at, items_of};
 ghost use Rattle.nagsched_protocol.specs.Explanation.{kind_fault, kind_words, last_good, line_place, line_tokens, most_bytes, not_json_text};
-ghost use Rattle.nagsched_protocol.specs.Explanation.{place_text, sentence, shape_fault, shown_value, stop_text, stops, token_text};
+ghost use Rattle.nagsched_protocol.specs.Explanation.{place_text, sentence, setup_sentence, shape_fault, shown_value, stop_text, stops, token_text};
 ghost use Rattle.nagsched_protocol.specs.Explanation.{too_long_text, value_fault, value_text, vocabulary_words, word_of};
 
 use crate::line::MAX_LINE_BYTES;
 use crate::refusal::{InputRefusal, LineFault, LineShape, ValueKind, Vocabulary};
 use crate::script::MAX_INPUT_BYTES;
+use check_objects::LoadError;
 use json::{MAX_DEPTH, Reader, Scratch, Token};
 use setup_diagnostics::{Line, Pushed};
 use simdutf8::compat::from_utf8;
@@ -33,9 +34,7 @@ pub(crate) fn explain_refusal(
 {
     let mut line = Line::new(alloc);
     match refusal {
-        InputRefusal::Setup(_) => line.push_words(
-            "line 1: the setup is refused; give this line to \"nagsched check\" to see why",
-        )?,
+        InputRefusal::Setup(error) => line.push_words(setup_sentence(error))?,
         InputRefusal::Saved(_) => line.push_words(
             "line 2: the saved state is refused; give lines 1 and 2 to \"nagsched check --resume\" to see why",
         )?,
@@ -48,6 +47,19 @@ pub(crate) fn explain_refusal(
         }
     }
     Ok(line.into_text())
+}
+
+/// What to do about a setup that is refused for this error.
+fn setup_sentence(error: LoadError) -> &'static str
+    ensures text { result.now ≡ setup_sentence error }
+    ensures no_line_feed { has_line_feed result.now ≡ false }
+{
+    match error {
+        LoadError::NotJson => {
+            "line 1: the setup isn't JSON; give it to \"nagsched check\" to see why, or to \"nagsched check --line\" to have it on one line"
+        }
+        _ => "line 1: the setup is refused; give this line to \"nagsched check\" to see why",
+    }
 }
 
 /// Appends the number of a line. Line 0 is the whole input.

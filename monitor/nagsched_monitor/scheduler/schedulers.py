@@ -107,7 +107,7 @@ class Conversation:
         part = os.read(self._output, READ_BYTES)
         if not part:
             status, words = end_process(self._process), b"".join(before).decode(errors="replace").rstrip("\n")
-            is_first = not words and self._patience == OPENING
+            is_first = not words and self._patience == OPENING and isinstance(status, int) and status >= 0
             why = f"{self._program} answered nothing, and ended with status {status}: {SCHEDULER.advice()}"
             raise ConversationEnded(why if is_first else f"the scheduler ended with status {status}: {words}")
         self._unanswered -= part.count(b"\n")

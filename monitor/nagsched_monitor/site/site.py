@@ -72,7 +72,7 @@ class Site:
 
 
 def read_site(folder: pathlib.Path, program: str) -> Site:
-    """The site of a folder. Raises a `SiteFault` that names the file and the error."""
+    """The site of a folder. Raises a `SiteFault` that names the file and the error, or a `MonitorFault` about the program."""
     SCHEDULER.test(program)
     with lock_for_reading(folder):
         paths = setup_files(folder)

@@ -90,8 +90,8 @@ def own_version() -> str:
 
 def find_program(name: str) -> Optional[str]:
     """The path of a program: of this package, or one on the path. None if it isn't found."""
-    beside = PROGRAM_FOLDERS if "/" not in name and name.startswith("nagsched-") else ()
-    return next(filter(None, (shutil.which(str(place / name)) for place in beside)), None) or shutil.which(name)
+    folders = PROGRAM_FOLDERS if "/" not in name and name.startswith("nagsched-") else ()
+    return next(filter(None, (shutil.which(str(folder / name)) for folder in folders)), None) or shutil.which(name)
 
 
 def runner_command() -> List[str]:
@@ -114,5 +114,5 @@ def read_own_file(path: pathlib.Path) -> str:
     """The text of a file of this package. Ends the process with a line if it can't be read."""
     try:
         return path.read_text(encoding="utf-8")
-    except OSError as error:
-        raise SystemExit(f"{path}: {error.strerror}: {INSTALL}") from None
+    except (OSError, ValueError) as error:
+        raise SystemExit(f"{path}: {trouble_text(error)}: {INSTALL}") from None

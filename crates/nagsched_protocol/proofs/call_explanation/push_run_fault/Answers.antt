@@ -9,7 +9,7 @@ pub returns : goal.returns
 returns c =
     let words = c.args.words.now in
     let run = decimal c.args.run in
-    let end = codes " has ended, or never began" in
+    let end = codes " has ended, or never began; nothing is left to do" in
     on_ok_weaker c.push_words-3.result (λ h.
     two_pieces c.args.line.now c.push_text.new.self c.push_words-3.new.self (quotation c.args.name.now) (words ++ (codes "; its run " ++ (run ++ end)))
     c.in_ok-push_text.ensures.text
