@@ -85,6 +85,11 @@ def owner_advice(path: pathlib.Path) -> str:
     return ""
 
 
+def system_words(error: OSError) -> str:
+    """What the system says of an error, without its number."""
+    return error.strerror or type(error).__name__
+
+
 def trouble_text(error: BaseException, path: Optional[pathlib.Path] = None) -> str:
     """What is wrong, and what to do about it. If a file may not be used, that is the command of its owner."""
     if not isinstance(error, OSError) or error.strerror is None:

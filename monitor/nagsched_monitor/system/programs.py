@@ -7,7 +7,7 @@ import shutil
 import subprocess
 from typing import Iterator, List, NamedTuple, Optional, Type
 
-from ..faults import MonitorFault, require, trouble_text, user_name
+from ..faults import MonitorFault, require, system_words, trouble_text, user_name
 
 # The folder of the package: lib/nagsched of an installation, or monitor in a checkout. The runner is in it, or built in its folder out.
 FOLDER = pathlib.Path(__file__).resolve().parent.parent.parent
@@ -32,7 +32,7 @@ class Program(NamedTuple):
     def trouble(self, path: str, error: OSError) -> str:
         """Why the path can't be run, in the system's words, and what to do."""
         is_of_file = error.errno in OF_FILES
-        return f"{path}: " + (f"{error.strerror}{file_trouble(path, error)}: {self.advice()}" if is_of_file else trouble_text(error))
+        return f"{path}: " + (f"{system_words(error)}{file_trouble(path, error)}: {self.advice()}" if is_of_file else trouble_text(error))
 
     @contextlib.contextmanager
     def starting(self, path: str, fault: Type[Exception] = MonitorFault) -> Iterator[None]:
@@ -114,5 +114,5 @@ def read_own_file(path: pathlib.Path) -> str:
     """The text of a file of this package. Ends the process with a line if it can't be read."""
     try:
         return path.read_text(encoding="utf-8")
-    except (OSError, ValueError) as error:
-        raise SystemExit(f"{path}: {trouble_text(error)}: {INSTALL}") from None
+    except OSError as error:
+        raise SystemExit(f"{path}: {system_words(error)}: {INSTALL}") from None
