@@ -10,7 +10,7 @@ use Rattle.nagsched_protocol.specs.Forms.{refusal_text}
 use Rattle.nagsched_protocol.specs.LiveText.{live_text}
 use Rattle.nagsched_protocol.specs.Script.{refused_bytes, requests_of}
 use Rattle.nagsched_protocol.specs.Streams.{HasRead, IsInput, Streams, outcome_by}
-use Rattle.nagsched_run.specs.Drive.{note_of}
+use Rattle.nagsched_protocol.specs.Notes.{note_of}
 use Rattle.nagsched_run.specs.Live.{LeavesText}
 
 -- the text of a run in JSON: the object of the first refusal, or that of a conversation on the same input
