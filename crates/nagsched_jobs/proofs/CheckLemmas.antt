@@ -2,7 +2,7 @@
 use Rattle.std.proofs.Common.{◌≡◌, ◌≢◌, ℕ, ◌<◌, ◌≤◌, ◌++◌, Bool, true, false, cond, List, [], ◌∷◌, length, Option, Some, None, Ok, Err, refl, sym, ap, subst}
 use Rattle.std.proofs.Common.{◌∙◌}
 use Rattle.std.proofs.Common.{append_assoc, arith, inl, inr, ◌⊎◌}
-use Rattle.std.specs.Prelude.{nat_lt, ok_or, IfErr, IfSome, Result}
+use Rattle.std.specs.Prelude.{nat_lt, ok_or, IfSome, Result}
 use Rattle.nagsched_protocol.specs.declared.outcome.Outcome.TheVariants as outcome
 use Rattle.nagsched_jobs.specs.Check.{tree_in, HasPrinted, IsFaultReport, IsGood, IsLineReport, IsRefusalReport, IsSummaryReport, IsDocumentReport, IsReportBy}
 use Rattle.nagsched_jobs.specs.Check.{IsTooLong, IsDocumentLine}

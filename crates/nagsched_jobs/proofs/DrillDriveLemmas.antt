@@ -158,7 +158,7 @@ module _ (start workers room : ℕ) (had left held : Option (List ℕ)) (read : 
       rw is (ended_by errors.Write holds (front_left holds (inr front)))
 
   -- it came to its end
-  abbrev pub flushed_drill : (given : Outcome) (mid holds : Option (List ℕ)) → WroteDrill start workers room read held mid → Keeps mid holds
+  abbrev flushed_drill : (given : Outcome) (mid holds : Option (List ℕ)) → WroteDrill start workers room read held mid → Keeps mid holds
       → given ≡ drill_outcome read → DrillEnded start workers room (Ok given) (streams had left held holds)
   flushed_drill given mid holds w kept is = record {
     input = input_of had read;

@@ -1,4 +1,3 @@
-use Rattle.std.proofs.Common.{◌≡◌}
 use Rattle.std.proofs.lemmas.Result.{IfOk-weaker}
 use Rattle.nagsched_jobs.proofs.check.render_line.Goals as goal
 

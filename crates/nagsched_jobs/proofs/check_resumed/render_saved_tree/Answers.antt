@@ -9,3 +9,6 @@ returns-in_ok-render_saved_fault-in-Err c =
     let real : refusal c.in-Err.fault ≡ Some c.in-Err.fault = search rules in
     let fails : saved_of_tree (view c.args.tree.now) ≡ Err c.in-Err.fault = rw real at c.in-Err.ensures in
     record { report = rw fails (c.in_ok-render_saved_fault-in-Err.ensures c.args.setup.now c.args.start); kind = tt }
+
+pub returns-in_ok-render_changes-in-Ok-clause-report : goal.returns-in_ok-render_changes-in-Ok-clause-report
+returns-in_ok-render_changes-in-Ok-clause-report c = rw c.in-Ok.ensures (c.in_ok-render_changes-in-Ok.ensures (view c.args.tree.now))
