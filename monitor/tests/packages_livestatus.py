@@ -100,7 +100,8 @@ WANTED: Dict[str, str] = {
     "Nagstamon": '"before": {"web;disk": ["CRITICAL", "99% used", true, false], "web;load": ["WARNING", "load 7", false, false]}, '
                  '"after": {"web;disk": ["CRITICAL", "99% used", true, false], "web;load": ["WARNING", "load 7", true, true]}',
     "pynag": '"test": true, "hosts": 2, "disk": "99% used", "groups": 1, "contacts": ["ada"], "counts": [1, 2]',
-    "Perl": '"hosts": ["gate", "web"], "refused": "ENABLE_HOST_CHECK: nobody: there is no object \'nobody\'", "sorted": [["disk"], ["load"]], '
+    "Perl": '"hosts": ["gate", "web"], "refused": "ENABLE_HOST_CHECK: nobody: there is no object \'nobody\'; the command status lists the full names", '
+            '"sorted": [["disk"], ["load"]], '
             '"stats": {"bad": 1, "ok": 1}',
 }
 

@@ -46,7 +46,7 @@ class Process(ProcessTest):
         waited = self.ask(f"GET hosts\nColumns: last_check\nFilter: name = h01\nWaitObject: h01\nWaitCondition: last_check > {before}\nWaitTimeout: 20000\n")
         self.assertGreater(int(waited), before)
         # If a command isn't obeyed, the sender gets the reason, and the log has it.
-        refusal = "ENABLE_HOST_CHECK: nobody: there is no object 'nobody'"
+        refusal = "ENABLE_HOST_CHECK: nobody: there is no object 'nobody'; the command status lists the full names"
         self.assertEqual(self.command("ENABLE_HOST_CHECK;nobody"), f"400: {refusal}\n")
         self.assertEqual(self.ask("COMMAND nonsense\n"), "400: a line has to be [TIME] COMMAND;ARGUMENT.., not 'nonsense'\n")
         # Several commands, and a query after them, on one connection.

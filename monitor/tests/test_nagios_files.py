@@ -242,7 +242,8 @@ class Process(ProcessTest):
         output = self.stop_monitor(running)
         told = [line.rpartition(" ")[2] for line in output.splitlines() if " h00;http is " in line and ": number " in line]
         self.assertEqual(told[-299:], [str(number) for number in range(1, 300)])
-        for why in ("REMOVE_HOST_ACKNOWLEDGEMENT: h00: there is no such acknowledgement", "ENABLE_HOST_CHECK: h07: there is no object 'h07'"):
+        for why in ("REMOVE_HOST_ACKNOWLEDGEMENT: h00: there is no such acknowledgement",
+                    "ENABLE_HOST_CHECK: h07: there is no object 'h07'; the command status lists the full names"):
             self.assertIn(f"refused: nagios.cmd: {why}\n", output)
         self.assertEqual(read_site_status(self.folder).figures["commands_refused"], 4)
         self.assertEqual((self.runs("h00;ssh"), (self.nagios / NAME).exists()), (3, False))

@@ -123,7 +123,7 @@ class Running(ProcessTest):
         self.assertTrue(becomes_true(lambda: "UP HARD 1 h01: up" in self.states()))
         self.assertEqual(self.run_command("disable", "h01").stdout, "disable: h01\n")
         wrong = self.run_command("enable", "h02")
-        self.assertEqual((wrong.returncode, wrong.stderr), (1, "nagsched-monitor: there is no object 'h02'\n"))
+        self.assertEqual((wrong.returncode, wrong.stderr), (1, "nagsched-monitor: there is no object 'h02'; the command status lists the full names\n"))
         self.await_states(["UP HARD 1 h00: up", "CRITICAL HARD 1 off h00;trap: door open", "UP HARD 1 off h01: up"])
         self.assertTrue(becomes_true(lambda: (self.folder / "changes").exists() and (self.folder / "changes").read_text().endswith("\n")))
         second = subprocess.run([sys.executable, str(MONITOR), "--program", PROGRAM, str(self.folder)], capture_output=True, text=True, check=False)

@@ -155,7 +155,7 @@ class Requests:
             raise RequestFault("name has to be the full name of an object")
         obj = self._scheduling.states.objects.get(name)
         if obj is None:
-            raise RequestFault(f"there is no object {name!r}")
+            raise RequestFault(f"there is no object {name!r}; the command status lists the full names")
         if is_called and not self._scheduling.is_open(obj.definition.part):
             raise AskAgain("the scheduler of this object is being started again")
         return obj

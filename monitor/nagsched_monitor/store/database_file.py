@@ -36,7 +36,7 @@ class DatabaseFile:
             keep_trying(lambda: fcntl.flock(self.number, fcntl.LOCK_EX | fcntl.LOCK_NB), PATIENCE)
         except BlockingIOError:
             self.close()
-            raise MonitorFault(f"another monitor runs on {path.parent}") from None
+            raise MonitorFault(f"another monitor runs on {path.parent}: stop it, or name another folder") from None
 
     def close(self) -> None:
         for file in self._files:
