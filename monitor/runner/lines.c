@@ -151,16 +151,12 @@ static char *read_member(char *at, struct job *job) {
     if (strcmp(name, "words") == 0 && job->words == NULL)
         return read_words(at, &job->words);
     char *rest = at;
-    if (strcmp(name, "limit") == 0) {
+    long long number = strcmp(name, "job") == 0 ? strtoll(at, &rest, 10) : -1;
+    if (strcmp(name, "limit") == 0)
         job->limit = strtod(at, &rest);
-        return rest == at ? NULL : rest;
-    }
-    bool is_time = strcmp(name, "at") == 0;
-    long long number = is_time || strcmp(name, "job") == 0 ? strtoll(at, &rest, 10) : -1;
-    if (rest == at)
-        return NULL;
-    *(is_time ? &job->at : &job->number) = number;
-    return rest;
+    else if (rest != at)
+        job->number = number;
+    return rest == at ? NULL : rest;
 }
 
 static bool read_members(char *line, struct job *job) {
@@ -181,7 +177,7 @@ bool job_read(char *line, struct job *job) {
     bool is_read = read_members(line, job);
     if (job->number < 0)
         job->number = -1;
-    return is_read && job->number >= 0 && job->limit > 0 && job->limit <= LONGEST && job->at >= 0 && job->words != NULL;
+    return is_read && job->number >= 0 && job->limit > 0 && job->limit <= LONGEST && job->words != NULL;
 }
 
 void job_free(struct job *job) {
@@ -212,11 +208,8 @@ static char *write_text(char *to, struct kept text) {
     return to;
 }
 
-char *write_result(char *to, long long job, struct ending ending, const struct times *times, struct kept output, struct kept errors) {
-    to += sprintf(to, "{\"job\":%lld,\"code\":%d,\"end\":\"%s\",", job, ending.code, ending.end);
-    if (times != NULL)
-        to += sprintf(to, "\"late\":%lld,\"took\":%lld,", times->late, times->took);
-    to = stpcpy(to, "\"output\":");
+char *write_result(char *to, long long job, struct ending ending, struct kept output, struct kept errors) {
+    to += sprintf(to, "{\"job\":%lld,\"code\":%d,\"end\":\"%s\",\"output\":", job, ending.code, ending.end);
     to = write_text(to, output);
     if (errors.length > 0)
         to = write_text(stpcpy(to, ",\"stderr\":"), errors);

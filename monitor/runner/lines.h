@@ -14,13 +14,11 @@ enum {
     MOST_RESULT = 2 * 6 * MOST_KEPT + 512
 };
 
-/* A command to run: its number, its words (NULL after the last), its limit in seconds, and when it is to be started, in milliseconds of the monotonic clock (0:
- * at once). And the next job of a list. */
+/* A command to run: its number, its words (NULL after the last) and its limit in seconds. */
 struct job {
-    long long number, at;
+    long long number;
     char **words;
     double limit;
-    struct job *after;
 };
 
 /* Reads the job of a line, and changes the line, which holds the words afterwards. Returns false if the line is no job; then `number` is -1, unless it was
@@ -41,13 +39,8 @@ struct ending {
     bool is_stuck;
 };
 
-/* By how many milliseconds a plugin began late, and how many it took. */
-struct times {
-    long long late, took;
-};
-
-/* Each of these writes a line to `to`, which has room for MOST_RESULT bytes, and returns the end of the line. The times are NULL if the plugin never began. */
-char *write_result(char *to, long long job, struct ending ending, const struct times *times, struct kept output, struct kept errors);
+/* Each of these writes a line to `to`, which has room for MOST_RESULT bytes, and returns the end of the line. */
+char *write_result(char *to, long long job, struct ending ending, struct kept output, struct kept errors);
 /* The plugin never ran, or its result is unknown: the check has to be made again. */
 char *write_lost(char *to, long long job, struct kept why);
 /* The process of a plugin that was reported as stuck has ended. */

@@ -26,16 +26,12 @@ double now(void) {
     return (double)time.tv_sec + (double)time.tv_nsec / 1e9;
 }
 
-long long milliseconds(double seconds) {
-    return (long long)(seconds * 1000);
-}
-
 struct kept kept_text(const char *text) {
     return (struct kept){text, strlen(text)};
 }
 
 bool has_room(const struct runner *runner) {
-    return runner->unsent_length + (1 + runner->begun_count) * MOST_RESULT <= MOST_UNSENT;
+    return runner->unsent_length + MOST_RESULT <= MOST_UNSENT;
 }
 
 char *next_line(const struct runner *runner) {
@@ -75,8 +71,7 @@ void send_results(struct runner *runner) {
 void close_stream(const struct runner *runner, struct stream *stream) {
     if (stream->file < 0)
         return;
-    if (stream->is_watched)
-        poll_for(runner, EPOLL_CTL_DEL, stream->file, 0, NULL);
+    poll_for(runner, EPOLL_CTL_DEL, stream->file, 0, NULL);
     close(stream->file);
     stream->file = -1;
 }
@@ -98,9 +93,7 @@ static struct kept kept_of(const struct stream *stream) {
 }
 
 void write_ending(struct runner *runner, const struct plugin *plugin, struct ending ending) {
-    long long late = milliseconds(plugin->begun) - plugin->at;
-    struct times times = {late > 0 ? late : 0, milliseconds(now() - plugin->begun)};
-    end_line(runner, write_result(next_line(runner), plugin->job, ending, &times, kept_of(&plugin->output), kept_of(&plugin->errors)));
+    end_line(runner, write_result(next_line(runner), plugin->job, ending, kept_of(&plugin->output), kept_of(&plugin->errors)));
 }
 
 void fail(struct runner *runner, long long job, const char *program, int error) {
@@ -110,7 +103,7 @@ void fail(struct runner *runner, long long job, const char *program, int error) 
     if (is_local_trouble(error))
         end_line(runner, write_lost(next_line(runner), job, why));
     else
-        end_line(runner, write_result(next_line(runner), job, (struct ending){"failed", 0, false}, NULL, why, none));
+        end_line(runner, write_result(next_line(runner), job, (struct ending){"failed", 0, false}, why, none));
 }
 
 static void make_plugins(void) {
@@ -128,7 +121,6 @@ struct plugin *plugin_new(void) {
     unused = plugin->after;
     memset(plugin, 0, offsetof(struct plugin, output));
     plugin->output.file = plugin->errors.file = -1;
-    plugin->output.is_watched = plugin->errors.is_watched = false;
     plugin->output.length = plugin->errors.length = 0;
     return plugin;
 }

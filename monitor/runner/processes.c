@@ -251,8 +251,7 @@ static void become(char *const *words, struct entry *entry, pid_t runner, int ou
 struct starter {
     struct starter *next;
     sem_t wanted, done;
-    /* What it does: nothing, a start that is awaited, or one that took too long. */
-    enum { IS_FREE, IS_AWAITED, IS_LEFT } phase;
+    bool is_busy;
     /* What to start, of which it has its own words, and what came of it. */
     char **words;
     struct entry *entry;
@@ -291,13 +290,13 @@ static bool begin_thread(struct starter *its) {
 static void forget_words(struct starter *its) {
     free(its->words);
     its->words = NULL;
-    its->phase = IS_FREE;
+    its->is_busy = false;
 }
 
 /* A thread that starts no process now; NULL if there is no room for another one. */
 static struct starter *free_starter(void) {
     struct starter *its = starters;
-    while (its != NULL && (its->phase == IS_AWAITED || (its->phase == IS_LEFT && sem_trywait(&its->done) != 0)))
+    while (its != NULL && its->is_busy && sem_trywait(&its->done) != 0)
         its = its->next;
     if (its != NULL) {
         forget_words(its);
@@ -313,7 +312,7 @@ static struct starter *free_starter(void) {
     return its;
 }
 
-char **copy_words(char *const *words) {
+static char **copy_words(char *const *words) {
     size_t count = 0, size = 0;
     for (; words[count] != NULL; count++)
         size += strlen(words[count]) + 1;
@@ -330,35 +329,43 @@ char **copy_words(char *const *words) {
 /* Waits until a thread has started its process, or until the process is there and has been loading its program for a while. */
 static void await_start(struct starter *its) {
     struct timespec until;
-    bool is_done;
     clock_gettime(CLOCK_MONOTONIC, &until);
     do {
         until.tv_nsec += LONGEST_LOAD * 1000000L;
         until.tv_sec += until.tv_nsec / 1000000000L;
         until.tv_nsec %= 1000000000L;
-        is_done = sem_clockwait(&its->done, CLOCK_MONOTONIC, &until) == 0;
-    } while (!is_done && its->entry->group == 0);
-    its->phase = is_done ? IS_FREE : IS_LEFT;
+        int result = sem_clockwait(&its->done, CLOCK_MONOTONIC, &until);
+        its->is_busy = result != 0;
+    } while (its->is_busy && its->entry->group == 0);
 }
 
-/* Begins to start a process, with both pipes open. */
-static int begin_start(char *const *words, struct started *started, const int *output, const int *errors) {
+/* Starts a process, with both pipes open. */
+static int start_plugin(char *const *words, struct started *started, const int *output, const int *errors) {
+    struct entry *entry = &table[started->place];
     struct starter *its = free_starter();
     if (its == NULL)
         return EAGAIN;
     its->words = copy_words(words);
     if (its->words == NULL)
         return ENOMEM;
-    its->entry = &table[started->place];
-    its->entry->error = 0;
+    entry->error = 0;
+    its->entry = entry;
     its->runner = getpid();
     its->output = output[1];
     its->errors = errors[1];
-    its->phase = IS_AWAITED;
-    started->starter = its;
+    its->is_busy = true;
+    sem_post(&its->wanted);
+    await_start(its);
+    if (!its->is_busy) {
+        forget_words(its);
+        if (its->error != 0)
+            return its->error;
+    }
+    pid_t process = its->is_busy ? entry->group : its->process;
+    entry->group = process;
+    started->process = process;
     started->output = output[0];
     started->errors = errors[0];
-    sem_post(&its->wanted);
     return 0;
 }
 
@@ -371,40 +378,20 @@ static void close_end(int file) {
         close(file);
 }
 
-int process_begin(char *const *words, struct started *started) {
+int process_start(char *const *words, struct started *started) {
     int output[2] = {-1, -1}, errors[2] = {-1, -1};
     if (free_count == 0 || (guard < 0 && !begin_guard()))
         return EAGAIN;
     started->place = free_places[free_count - 1];
-    int error = open_pipe(output) && open_pipe(errors) ? begin_start(words, started, output, errors) : errno;
-    if (error == 0) {
-        free_count--;
-        return 0;
+    int error = open_pipe(output) && open_pipe(errors) ? start_plugin(words, started, output, errors) : errno;
+    close_end(output[1]);
+    close_end(errors[1]);
+    if (error != 0) {
+        close_end(output[0]);
+        close_end(errors[0]);
+        return error;
     }
-    for (int end = 0; end < 2; end++) {
-        close_end(output[end]);
-        close_end(errors[end]);
-    }
-    return error;
-}
-
-int process_await(struct started *started) {
-    struct starter *its = started->starter;
-    struct entry *entry = its->entry;
-    await_start(its);
-    close_end(its->output);
-    close_end(its->errors);
-    bool is_done = its->phase == IS_FREE;
-    if (is_done)
-        forget_words(its);
-    if (is_done && its->error != 0) {
-        close_end(started->output);
-        close_end(started->errors);
-        process_forget(started);
-        return its->error;
-    }
-    started->process = is_done ? its->process : entry->group;
-    entry->group = started->process;
+    free_count--;
     return 0;
 }
 

@@ -17,24 +17,15 @@ bool processes_open(void);
 /* Whether a process that has ended was the guard, which is then started again. */
 bool is_guard(pid_t process);
 
-struct starter;
-
-/* A process that was started: its number, its place in the table, the files from which its output and its errors can be read, and the thread that starts it. */
+/* A process that was started: its number, its place in the table, and the files from which its output and its errors can be read. */
 struct started {
     pid_t process;
     int place, output, errors;
-    struct starter *starter;
 };
 
-/* A copy of words, which one `free` frees; NULL if there is no memory. */
-char **copy_words(char *const *words);
-
-/* Begins to start a process with these words, in a group of its own. Returns 0, or the number of the error that kept the process from starting. */
-int process_begin(char *const *words, struct started *started);
-
-/* Waits until a process is there that was begun. If a file system holds up its program, this waits for a few milliseconds and goes on. Returns the same. Processes
- * that are begun together and then awaited start faster than one after the other. */
-int process_await(struct started *started);
+/* Starts a process with these words, in a group of its own. If a file system holds up the program, this waits for a few milliseconds and goes on. Returns 0, or
+ * the number of the error that kept the process from starting. */
+int process_start(char *const *words, struct started *started);
 
 /* Kills a process with its group, which may have ended just now, or belong to another user. */
 void process_kill(const struct started *started);

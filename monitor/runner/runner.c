@@ -10,7 +10,6 @@
 #include <math.h>
 #include <signal.h>
 #include <stdio.h>
-#include <stdlib.h>
 #include <string.h>
 #include <sys/epoll.h>
 #include <sys/signalfd.h>
@@ -23,11 +22,8 @@
 enum { EVENTS_AT_ONCE = 64, NO_ROOM_WAIT = 100 };
 /* In milliseconds: the longest wait for events, the same while plugins run, and how much longer than that a wait takes if this process stood still. */
 enum { LONGEST_WAIT = 60000, LONGEST_LOOK = 1000, STANDSTILL = 1000 };
-/* Jobs that wait begin at multiples of this time, so that one waking serves several of them. And the longest wait of a job, both in milliseconds. */
-enum { TICK = 15, LONGEST_AHEAD = 1000 };
-/* In seconds: the limit for the end of a killed plugin, after which it is reported as stuck, and how long a plugin runs before its output is read while it
- * comes. Most have ended by then, and the pipes have room for all that they wrote, so the runner isn't woken for it. */
-static const double GRACE = 5.0, UNWATCHED = 0.05;
+/* The limit for the end of a killed plugin, in seconds, after which it is reported as stuck. */
+static const double GRACE = 5.0;
 
 /* The data of the events that belong to no stream. */
 static const char JOBS, ENDED;
@@ -35,45 +31,22 @@ static char unread[MOST_LINE];
 
 /* ---- jobs */
 
-static bool is_idle(const struct runner *runner) {
-    return runner->running.after == &runner->running;
+static void watch_stream(const struct runner *runner, struct stream *stream, struct plugin *of, int file) {
+    stream->file = file;
+    if (!poll_for(runner, EPOLL_CTL_ADD, file, EPOLLIN, stream))
+        of->trouble = errno;
 }
 
 static void add(struct runner *runner, struct plugin *plugin) {
-    if (is_idle(runner))
-        runner->next_look = INFINITY;
-    runner->next_look = fmin(runner->next_look, fmin(plugin->watch, plugin->deadline));
     plugin->before = &runner->running;
     plugin->after = runner->running.after;
     plugin->after->before = plugin;
     runner->running.after = plugin;
 }
 
-static void await_start(struct runner *runner, struct plugin *plugin) {
-    int error = process_await(&plugin->started);
-    if (error != 0) {
-        fail(runner, plugin->job, plugin->program, error);
-        plugin_free(plugin);
-        return;
-    }
-    double time = now();
-    plugin->watch = time + UNWATCHED;
-    plugin->deadline = time + plugin->limit;
-    plugin->output.file = plugin->started.output;
-    plugin->errors.file = plugin->started.errors;
-    add(runner, plugin);
-}
-
-static void await_starts(struct runner *runner) {
-    for (size_t i = 0; i < runner->begun_count; i++)
-        await_start(runner, runner->begun[i]);
-    runner->begun_count = 0;
-}
-
 static void start(struct runner *runner, const struct job *job) {
     struct plugin *plugin = plugin_new();
-    double begun = now();
-    int error = plugin == NULL ? ENOMEM : process_begin(job->words, &plugin->started);
+    int error = plugin == NULL ? ENOMEM : process_start(job->words, &plugin->started);
     if (error != 0) {
         if (plugin != NULL)
             plugin_free(plugin);
@@ -81,52 +54,18 @@ static void start(struct runner *runner, const struct job *job) {
         return;
     }
     plugin->job = job->number;
-    plugin->at = job->at;
-    plugin->begun = begun;
-    plugin->limit = job->limit;
+    plugin->deadline = now() + job->limit;
     snprintf(plugin->program, sizeof plugin->program, "%s", job->words[0]);
-    runner->begun[runner->begun_count++] = plugin;
-    if (runner->begun_count == MOST_BEGUN)
-        await_starts(runner);
-}
-
-/* Has a job wait for its time, behind those of the same time. */
-static void postpone(struct runner *runner, const struct job *job) {
-    struct job *copy = malloc(sizeof *copy), **place = &runner->waiting;
-    if (*place != NULL && runner->last_waiting->at <= job->at)
-        place = &runner->last_waiting->after;
-    char **words = copy_words(job->words);
-    if (copy == NULL || words == NULL) {
-        free(copy);
-        free(words);
-        fail(runner, job->number, job->words[0], ENOMEM);
-        return;
-    }
-    while (*place != NULL && (*place)->at <= job->at)
-        place = &(*place)->after;
-    *copy = *job;
-    copy->words = words;
-    copy->after = *place;
-    if (copy->after == NULL)
-        runner->last_waiting = copy;
-    *place = copy;
-}
-
-/* Starts the jobs whose ticks have come, as long as there is room for their answers. */
-static void start_waiting_ones(struct runner *runner) {
-    long long tick = runner->waiting == NULL ? 0 : milliseconds(now()) / TICK * TICK;
-    while (has_room(runner) && runner->waiting != NULL && runner->waiting->at <= tick) {
-        struct job *job = runner->waiting;
-        runner->waiting = job->after;
-        start(runner, job);
-        job_free(job);
-        free(job);
-    }
+    add(runner, plugin);
+    watch_stream(runner, &plugin->output, plugin, plugin->started.output);
+    watch_stream(runner, &plugin->errors, plugin, plugin->started.errors);
+    if (plugin->trouble != 0)
+        process_kill(&plugin->started);
 }
 
 static void refuse(struct runner *runner, const struct job *job) {
     static const char words[] = "this machine's --only file doesn't allow this command line";
-    end_line(runner, write_result(next_line(runner), job->number, (struct ending){"failed", 0, false}, NULL, kept_text(words), (struct kept){"", 0}));
+    end_line(runner, write_result(next_line(runner), job->number, (struct ending){"failed", 0, false}, kept_text(words), (struct kept){"", 0}));
 }
 
 /* Obeys a line, whose newline is a NUL now. */
@@ -135,17 +74,10 @@ static void obey(struct runner *runner, char *line, size_t length) {
     struct kept no_job = kept_text("the line is no job");
     bool is_job = strlen(line) == length && !runner->is_line_too_long && job_read(line, &job);
     runner->is_line_too_long = false;
-    long long moment = milliseconds(now());
-    if (job.at == 0)
-        job.at = moment;
-    else if (job.at > moment + LONGEST_AHEAD)
-        job.at = moment + LONGEST_AHEAD;
     if (!is_job)
         end_line(runner, job.number < 0 ? write_error(next_line(runner), no_job) : write_lost(next_line(runner), job.number, no_job));
     else if (runner->allowed != NULL && !allowed_fits(runner->allowed, job.words))
         refuse(runner, &job);
-    else if (job.at > moment)
-        postpone(runner, &job);
     else
         start(runner, &job);
     job_free(&job);
@@ -205,56 +137,31 @@ static void extend_limits(struct runner *runner, double waited, int wanted) {
         plugin->deadline += waited;
 }
 
-static void watch_stream(const struct runner *runner, struct stream *stream, struct plugin *of) {
-    stream->is_watched = poll_for(runner, EPOLL_CTL_ADD, stream->file, EPOLLIN, stream);
-    if (!stream->is_watched)
-        of->trouble = errno;
-}
-
-/* Has the output of a plugin read while it comes. */
-static void watch(const struct runner *runner, struct plugin *plugin) {
-    plugin->watch = INFINITY;
-    watch_stream(runner, &plugin->output, plugin);
-    watch_stream(runner, &plugin->errors, plugin);
-    if (plugin->trouble != 0)
-        process_kill(&plugin->started);
-}
-
-/* Kills a plugin that is past its limit, or reports one that was killed and doesn't end. */
-static void kill_late_one(struct runner *runner, struct plugin *plugin, double time) {
-    if (plugin->phase == RUNS) {
-        process_kill(&plugin->started);
-        plugin->phase = IS_KILLED;
-        plugin->deadline = time + GRACE;
-    } else if (has_room(runner)) {
-        write_ending(runner, plugin, (struct ending){"limit", SIGKILL, true});
-        close_stream(runner, &plugin->output);
-        close_stream(runner, &plugin->errors);
-        plugin->phase = IS_STUCK;
-        plugin->deadline = INFINITY;
-    }
-}
-
-/* Looks after the plugins that have run for a while, or are past their limits, if there may be some. */
-static void look_after_plugins(struct runner *runner) {
+/* Kills the plugins that are past their limits, and reports those that were killed and don't end. */
+static void kill_late_ones(struct runner *runner) {
     double time = now();
-    if (time < runner->next_look)
-        return;
-    runner->next_look = INFINITY;
     for (struct plugin *plugin = runner->running.after; plugin != &runner->running; plugin = plugin->after) {
-        if (plugin->watch <= time)
-            watch(runner, plugin);
-        if (plugin->deadline <= time)
-            kill_late_one(runner, plugin, time);
-        runner->next_look = fmin(runner->next_look, fmin(plugin->watch, plugin->deadline));
+        if (plugin->deadline > time)
+            continue;
+        if (plugin->phase == RUNS) {
+            process_kill(&plugin->started);
+            plugin->phase = IS_KILLED;
+            plugin->deadline = time + GRACE;
+        } else if (has_room(runner)) {
+            write_ending(runner, plugin, (struct ending){"limit", SIGKILL, true});
+            close_stream(runner, &plugin->output);
+            close_stream(runner, &plugin->errors);
+            plugin->phase = IS_STUCK;
+            plugin->deadline = INFINITY;
+        }
     }
 }
 
 /* The time until the next work, in milliseconds. */
 static int quiet_time(const struct runner *runner) {
-    double first = is_idle(runner) ? INFINITY : runner->next_look;
-    if (runner->waiting != NULL)
-        first = fmin(first, (double)((runner->waiting->at + TICK - 1) / TICK * TICK) / 1000);
+    double first = INFINITY;
+    for (const struct plugin *plugin = runner->running.after; plugin != &runner->running; plugin = plugin->after)
+        first = fmin(first, plugin->deadline);
     int left = (int)fmax(0, fmin(ceil((first - now()) * 1000), first < INFINITY ? LONGEST_LOOK : LONGEST_WAIT));
     if (has_room(runner))
         return runner->is_behind ? 0 : left;
@@ -283,10 +190,8 @@ static void turn(struct runner *runner) {
     for (int i = 0; i < count; i++)
         handle(runner, &events[i]);
     finish_ended_ones(runner); /* after all events, so that no event is of a removed plugin */
-    look_after_plugins(runner);
+    kill_late_ones(runner);
     obey_lines(runner);
-    start_waiting_ones(runner);
-    await_starts(runner);
     runner->is_behind = !has_room(runner);
     send_results(runner);
 }

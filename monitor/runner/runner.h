@@ -9,12 +9,11 @@
 #include "lines.h"
 #include "processes.h"
 
-enum { MOST_UNSENT = 1 << 20, MOST_BEGUN = 8 };
+enum { MOST_UNSENT = 1 << 20 };
 
 /* One of a plugin's streams, and the stored part of its bytes. */
 struct stream {
     int file;
-    bool is_watched;
     size_t length;
     char bytes[MOST_KEPT];
 };
@@ -23,8 +22,7 @@ struct plugin {
     struct plugin *before, *after;
     long long job;
     struct started started;
-    long long at; /* when it was to begin, in milliseconds */
-    double begun, limit, watch, deadline; /* watch: from when on its output is read while it comes */
+    double deadline;
     int trouble; /* the error that prevents waiting for its output; 0 without one */
     char program[256];
     enum { RUNS, IS_KILLED, IS_STUCK } phase;
@@ -36,21 +34,15 @@ struct runner {
     int poll, ended;
     bool is_over, is_behind, takes_jobs, is_line_too_long, waits_for_reader;
     size_t unread_length, unsent_length;
-    /* The plugins whose starts have to be awaited, and the head of the ring of the others. */
-    struct plugin *begun[MOST_BEGUN], running;
-    size_t begun_count;
-    double next_look; /* no running plugin has to be looked after before this time */
-    /* The jobs whose time hasn't come, the earliest first, and the last of them. */
-    struct job *waiting, *last_waiting;
+    struct plugin running; /* the ring's head */
 };
 
 /* The data of the events of standard output. */
 extern const char RESULTS;
 
 double now(void);
-long long milliseconds(double seconds);
 
-/* Whether one more result has room, if the starts that are awaited fail. */
+/* Whether one more result has room. */
 bool has_room(const struct runner *runner);
 
 /* The place for the next line of a result, and a note that it was written up to `end`. */

@@ -3,7 +3,7 @@ from typing import TYPE_CHECKING, Dict, List
 
 from nagsched_monitor.core.engine import Engine
 from nagsched_monitor.model.jobs import Event, JobLost
-from nagsched_monitor.model.objects import Owner, Run
+from nagsched_monitor.model.objects import Owner
 
 if TYPE_CHECKING:
     from .simulated import SimulatedRunners
@@ -17,9 +17,9 @@ class Invariants:
         self._ends: Dict[str, Event] = {}
         count = engine.plugins._count_losses
 
-        def noted(run: Run, event: Event) -> None:
+        def noted(event: Event) -> None:
             self._ends[event.job.name] = event
-            count(run, event)
+            count(event)
 
         setattr(engine.plugins, "_count_losses", noted)
         # The facts that didn't hold.

@@ -1,7 +1,6 @@
 """A simulated site: a clock that the test sets, and plugins that are functions. The schedulers and the database are real."""
 import heapq
 import json
-import math
 import os
 import pathlib
 import tempfile
@@ -43,9 +42,6 @@ class SimulatedClock(Clock):
     def moment(self) -> int:
         return self.now
 
-    def offset(self) -> int:
-        return 0
-
     def wall(self) -> float:
         return self.now / 1000 + self.wall_is_off
 
@@ -60,16 +56,12 @@ class SimulatedRunners(RunnerPools):
     _ends: List[Tuple[int, int, Event]] = field(default_factory=list)
 
     def start(self, job: Job) -> None:
-        moment = max(self.clock.now, job.at or 0)
-        took, code, output = self.plugin(job.name, moment)
-        self.started.append((moment, job))
-        heapq.heappush(self._ends, (moment + took, len(self.started), JobFinished(job, "exited", code, output)))
+        took, code, output = self.plugin(job.name, self.clock.now)
+        self.started.append((self.clock.now, job))
+        heapq.heappush(self._ends, (self.clock.now + took, len(self.started), JobFinished(job, "exited", code, output)))
 
     def flush(self) -> None:
         pass
-
-    def quiet_time(self) -> float:
-        return math.inf
 
     def events(self) -> List[Event]:
         events: List[Event] = []

@@ -28,10 +28,10 @@ class Ages(SiteTest):
         """All are overdue after two intervals, their limit and a minute; figures, log and signs say so, and again after a restart."""
         self.write_site([host(f"h{number}") for number in range(5)], [])
         monitor = self.monitor(fine)
-        monitor.run(119)
+        monitor.run(120)
         self.assertEqual(self.overdue(monitor), (0, 5))
         self.lose(monitor)
-        monitor.run(171)
+        monitor.run(170)
         self.assertEqual(self.overdue(monitor), (0, 5))
         monitor.run(70)
         self.assertEqual(self.overdue(monitor), (5, 5))

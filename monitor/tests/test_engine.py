@@ -38,8 +38,7 @@ class Pauses(SiteTest):
         monitor.pause(30)
         monitor.run(90)
         counts = monitor.checks_a_second()
-        # Runners have the jobs of the next moments, and start them in a pause, too.
-        for first, last, wanted in ((5, 60, 100), (61, 90, 0), (91, 104, 300), (110, 179, 100)):
+        for first, last, wanted in ((5, 60, 100), (60, 90, 0), (91, 104, 300), (110, 179, 100)):
             least, most = min(counts[first:last]), max(counts[first:last])
             self.assertTrue(wanted - 4 <= least and most <= wanted + 4, (first, last, wanted, least, most))
 
@@ -129,7 +128,7 @@ class Outages(SiteTest):
         self.write_site([host("web", check_interval=5)], [service("web", "http", check_interval=7, max_check_attempts=1)])
         monitor = self.monitor(lambda name, moment: (10, 2 if ";" in name and (moment // 7_000) % 2 else 0, ""))
         monitor.run(100)
-        self.assertEqual(monitor.starts()["web"], list(range(0, 100_001, 5_000)))
+        self.assertEqual(monitor.starts()["web"], list(range(0, 100_000, 5_000)))
 
 
 class Periods(SiteTest):

@@ -201,7 +201,7 @@ class Faults(SiteTest):
         monitor = self.monitor(fine)
         monitor.run(290)
         self.assertGreater(len(monitor.store.calls_since(0, 0)), 50)
-        monitor.run(19)
+        monitor.run(20)
         self.assertLess(len(monitor.store.calls_since(0, 0)), 10)
         self.assertIsNotNone(monitor.store.generations()[0].saved)
         self.assertFalse([line for line in monitor.lines if "otherwise" in line])

@@ -92,7 +92,7 @@ class Table(SiteTest):
         before = self.assert_same(monitor)
         self.assertEqual((before["web"].since, before["web"].hard_since, before["web"].last_check), (self.wall(0.5), self.wall(0.5), self.wall(0)))
         self.assertEqual((before["web"].took, before["web"].late, before["web"].words), (0.5, 0.0, "fine"))
-        monitor.run(269)
+        monitor.run(270)
         during = self.assert_same(monitor)
         web, http = during["web"], during["web;http"]
         self.assertEqual((web.state, web.kind, web.attempt, web.words), ("DOWN", "HARD", 3, "no answer|rta=0"))
@@ -144,7 +144,7 @@ class Table(SiteTest):
     def test_a_row_that_lags_behind(self) -> None:
         """The table lost the latest rows: the stored changes show when an object's state began."""
         monitor = self.monitor(outage)
-        monitor.run(290)
+        monitor.run(350)
         before = self.assert_same(monitor)
         monitor.close()
         with sqlite3.connect(self.folder / "monitor.db") as database:

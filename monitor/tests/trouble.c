@@ -25,7 +25,7 @@ static int is_named(const char *trouble) {
 /* Whether this is the second, fourth and so on call. The first is that of the guard. */
 static int is_refused(const char *trouble) {
     static int count;
-    return is_named(trouble) && __atomic_add_fetch(&count, 1, __ATOMIC_SEQ_CST) % 2 == 0; /* threads call it at once */
+    return is_named(trouble) && ++count % 2 == 0;
 }
 
 int kill(pid_t process, int number) {

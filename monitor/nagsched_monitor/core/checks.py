@@ -4,16 +4,16 @@ The age of what is known is the time since each object's last result, compared w
 results away: no plugin can be started, a runner is away, a scheduler or the disk fails."""
 import collections
 from functools import partial
-from typing import Callable, DefaultDict, Dict, List, Mapping, NamedTuple, Optional, Sequence, Tuple
+from typing import Callable, Dict, List, Mapping, NamedTuple, Optional, Sequence, Tuple
 
 from ..model.clock import Clock
-from ..model.objects import ENOUGH, HOST_FIRST, LEAD, LONGEST_SHARING, RESULT_FIRST, ObjectDefinition, ObjectState
+from ..model.objects import HOST_FIRST, LONGEST_SHARING, RESULT_FIRST, ObjectDefinition, ObjectState
 from ..model.protocol import NO_PROBLEM, Enable, Reschedule, Standing, Take
 from ..scheduler.scheduling import Plan, Scheduling
 from .passive import PassiveResults
 
 WINDOW = 15_000  # the time within which overdue checks are made, in milliseconds, unless their interval is shorter
-# The greatest difference from the phase that a next check may keep, and the most by which a check is late that counts as begun in time, in milliseconds.
+# The greatest difference from the phase that a next check may keep, in milliseconds.
 TOLERANCE = LONGEST_SHARING + 100
 # The time after two intervals and the limit of the plugin until an object is overdue, and between two log lines about overdue objects, in milliseconds.
 MARGIN = 60_000
@@ -41,7 +41,6 @@ class Checks:
         # The periods that include the minute for which they were looked at last.
         self._periods: Mapping[str, bool] = {}
         self._minute: Optional[int] = None
-        self.is_limited = False  # whether the last turn may have left out checks of its time, for lack of slots or at the end of a minute
         self._logged_at: Optional[int] = None  # when overdue objects were logged last, while there are some
 
     def has_more(self, now: int) -> bool:
@@ -130,29 +129,22 @@ class Checks:
         self._to_spread.clear()
 
     def plan_takes(self, plan: Plan, now: int) -> None:
-        """A take for each check that is due and has a free slot. Checks of the next time are taken at their own times, with half of the free slots."""
-        states, site = self._scheduling.states, self._scheduling.site
-        used = sum(job.runner is None for job in states.running.plugins()) - plan.freed
-        free, most, time = site.options.slots - used, min(ENOUGH, (site.limit - used) // 2), LEAD + LONGEST_SHARING
-        if self._periods:
-            time = min(time, 59_999 - round(self._clock.wall() * 1000) % 60_000)  # each minute may switch objects
-        self.is_limited = most < ENOUGH or time < LEAD + LONGEST_SHARING
-        due = states.due.due_names()
+        """A take for each check that is due and has a free slot."""
+        states = self._scheduling.states
+        due = states.due.due_names(now)
         counts = collections.Counter({part: len(names) for part, names in due.items()})
-        new = states.due.add_due(now, now + time, most)
-        for key in (self._objects[name].key for name in plan.later - plan.at_once):
-            counts[key[0]] -= new.pop(key, None) is None and key[1] in due[key[0]]
-        for key in (self._objects[name].key for name in plan.at_once):
-            counts[key[0]] += new.pop(key, None) is not None or key[1] not in due[key[0]]
-        times: DefaultDict[int, List[int]] = collections.defaultdict(list)
-        for (part, _), time in new.items():
-            times[part].append(time if now - time <= TOLERANCE else now)
-        for part in sorted({*counts, *times}):
+        for part, name in (self._objects[name].key for name in plan.later - plan.at_once):
+            counts[part] -= name in due[part]
+        for part, name in (self._objects[name].key for name in plan.at_once):
+            counts[part] += name not in due[part]
+        if not any(counts.values()):
+            return
+        free = self._scheduling.site.options.slots - sum(job.runner is None for job in states.running.plugins()) + plan.freed
+        for part, count in sorted(counts.items()):
             if self._scheduling.is_open(part) and part not in self._unspread:
-                # In the order of times, each take finds an object that is due.
-                taken = sorted([now] * min(counts[part], max(0, free)) + times[part])[: max(0, free)]
-                plan.calls += [(part, Take(time), None) for time in taken]
-                free -= len(taken)
+                taken = max(0, min(count, free))
+                plan.calls += [(part, Take(now), None)] * taken
+                free -= taken
 
     def apply_result(self, obj: ObjectState, before: Optional[Standing], standing: Standing, now: int) -> None:
         """The object returns to its phase, and hosts may matter."""

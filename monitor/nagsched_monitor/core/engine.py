@@ -8,8 +8,8 @@ from typing import Any, Callable, Deque, Dict, List, Optional, Sequence
 
 from ..faults import ConversationEnded, NotStored
 from ..model.clock import Clock
-from ..model.objects import LEAD, ObjectState, Owner
-from ..model.protocol import Abandon, Call, Freed, PutOff, Refused, Report, Reschedule, Standing, Take, Taken, call_line
+from ..model.objects import ObjectState, Owner
+from ..model.protocol import Abandon, Call, Freed, PutOff, Refused, Report, Reschedule, Standing, Taken, call_line
 from ..run.runners import RunnerPools
 from ..scheduler.scheduling import ObjectAnswer, Plan, Scheduling
 from ..site.site import Site
@@ -21,11 +21,9 @@ from .plugin_runs import MARGIN, PluginRuns
 from .requests import Actions, Request, Requests
 
 PAUSE = 10_000  # the longest time between two turns that isn't a pause, in milliseconds
-# The longest wait for the next turn, how soon a change is stored or a next check is set, and the least time after a turn that left out checks, in
-# milliseconds.
+# The longest wait for the next turn, and how soon a change is stored or a next check is set, in milliseconds.
 LONGEST_WAIT = 1_000
 CHANGES_WAIT = 100
-LIMITED_WAIT = 50
 AFTER_REFUSAL = 60_000  # how long a check whose result was refused waits for the next one, in milliseconds
 # The number of calls after which the next part is saved, the time in which each part is saved, and the pause before another try, in milliseconds.
 SAVE_CALLS = 50_000
@@ -121,7 +119,7 @@ class Engine:
             return 0  # the next turn comes without any rest
         first = self.scheduling.states.due.first_time()
         latest = now + (CHANGES_WAIT if self.scheduling.has_more() or self.checks.planned_checks else LONGEST_WAIT)
-        return latest if first is None else min(max(first - LEAD, now + LIMITED_WAIT * self.checks.is_limited), latest)
+        return latest if first is None else min(first, latest)
 
     def _make_plan(self, now: int) -> Plan:
         """All the work of this turn, in the order in which schedulers get it."""
@@ -162,7 +160,7 @@ class Engine:
         elif obj is None:
             return
         elif isinstance(answer, Taken):
-            self._apply_take(obj, self._now if not isinstance(call, Take) else call.now)
+            self._apply_take(obj)
         elif isinstance(answer, PutOff):
             obj.known_at = self._now  # its setup holds back the check
         elif isinstance(call, Abandon) and isinstance(answer, Freed):
@@ -182,7 +180,7 @@ class Engine:
         if obj.run is not None and obj.run.number == call.run:
             obj.run.owner, obj.run.retry_at = Owner.NOBODY, self._now + AFTER_REFUSAL
 
-    def _apply_take(self, obj: ObjectState, moment: int) -> None:
+    def _apply_take(self, obj: ObjectState) -> None:
         """Gives a run its owner: the passive result that waits, the plugin that still runs, or a new one."""
         run = obj.run
         if run is None:
@@ -192,7 +190,7 @@ class Engine:
         if obj.name in self.passive:
             run.owner, run.deadline = Owner.RESULT, self._now + MARGIN
         elif obj.definition.command is not None:
-            self.plugins.start(obj, run, obj.definition.command, moment)
+            self.plugins.start(obj, run, obj.definition.command)
         else:
             self._log(f"{obj.name} has no command: no check of it is made")
 

@@ -33,21 +33,20 @@ class PluginRuns:
         # How often in a row the check of an object was lost, and couldn't be run here.
         self._losses: Counter[str] = collections.Counter()
         self._delays: Counter[str] = collections.Counter()
-        # The moment of this turn, and how far the clock of runners is ahead of it.
-        self._now, self._offset = clock.moment(), clock.offset()
-        self._last_sweep = self._now
+        self._last_sweep = clock.moment()
 
-    def start(self, obj: ObjectState, run: Run, command: Command, moment: int) -> None:
-        """Runs the plugin of a check that was taken for a moment. If the plugin of an earlier run still runs, this run ends."""
+    def start(self, obj: ObjectState, run: Run, command: Command) -> None:
+        """Runs the plugin of a check that was taken. If the plugin of an earlier run still runs, this run ends."""
         left = self._scheduling.states.running.leftover_jobs.pop(obj.name, None)
         if left is not None:
             self._assign(run, left)
             return
-        due = obj.last_due if obj.last_due is not None and obj.last_due >= FIRST_TIME else None
-        begins = moment if obj.definition.runner is None else max(moment, self._now)  # a runner here says how late it was
-        obj.history.late = 0.0 if due is None else max(0, begins - due) / 1000
-        at = None if due is None else moment + self._offset
-        job = Job(obj.name, run.number, command.arguments, command.limit, obj.definition.runner, at)
+        late = 0
+        if obj.last_due is not None and obj.last_due >= FIRST_TIME:
+            late = self._clock.moment() - obj.last_due
+            self._counters.count_start(late)
+        obj.history.late = max(0, late) / 1000
+        job = Job(obj.name, run.number, command.arguments, command.limit, obj.definition.runner)
         self._assign(run, job)
         if obj.name in self._stuck:
             self._events.append(JobFinished(job, "limit", 0, "the plugin of an earlier check still runs and can't be killed"))
@@ -57,11 +56,10 @@ class PluginRuns:
     def _assign(self, run: Run, job: Job) -> None:
         remote = None if job.runner is None else self._scheduling.site.runners.get(job.runner)
         wait = 0 if remote is None else round(2 * remote.wait * 1000) + MARGIN  # for the runner, and for the queue after it
-        run.owner, run.job, run.deadline = Owner.PLUGIN, job, self._now + round(job.limit * 1000) + wait + MARGIN
+        run.owner, run.job, run.deadline = Owner.PLUGIN, job, self._clock.moment() + round(job.limit * 1000) + wait + MARGIN
 
     def collect_events(self, now: int) -> None:
         """Takes in the events of runners, and looks over all runs every second."""
-        self._now, self._offset = now, self._clock.offset()
         self._events.extend(self._runners.events())
         self._delayed.flush()
         if now - self._last_sweep >= SWEEP:
@@ -95,7 +93,7 @@ class PluginRuns:
             elif self._scheduling.is_reportable(run.key):
                 plan.calls += self._ending_calls(run, event, now)
                 plan.freed += event.job.runner is None
-                plan.then.append(partial(self._count_losses, run, event))
+                plan.then.append(partial(self._count_losses, event))
             else:
                 left.append(event)
         for run in self._scheduling.states.running.owned_by(Owner.NOBODY):
@@ -135,17 +133,7 @@ class PluginRuns:
         name = event.job.name
         return event.is_local or self._losses[name] == MOST_LOST and self._scheduling.states.objects[name].definition.is_host()
 
-    def _note_times(self, run: Run, event: JobFinished) -> None:
-        """Takes in how late a plugin began and how long it took, by its runner if that says so."""
-        history, late = self._scheduling.states.objects[event.job.name].history, (event.late or 0) / 1000
-        run.took = None if event.took is None else event.took / 1000
-        if event.job.at is None or event.job.run != run.number:
-            return  # it was asked for at once, or began for an earlier run
-        history.late = (history.late or 0.0) + late
-        run.began_at = None if run.began_at is None else run.began_at + late
-        self._counters.count_start(round(history.late * 1000))
-
-    def _count_losses(self, run: Run, event: Event) -> None:
+    def _count_losses(self, event: Event) -> None:
         name = event.job.name
         if isinstance(event, JobLost) and self._is_delayed(event):
             self._delays[name] += 1
@@ -156,8 +144,6 @@ class PluginRuns:
             self._losses[name] += 1
         else:
             self._losses.pop(name, None)
-        if isinstance(event, JobFinished):
-            self._note_times(run, event)
         if isinstance(event, JobFinished) and event.is_stuck:
             self._stuck[name] = event.job
             self._log(f"{name}: its plugin can't be killed; no other is started meanwhile")

@@ -19,10 +19,5 @@ class Clock:
     def moment(self) -> int:
         return (self._ahead + time.clock_gettime_ns(time.CLOCK_BOOTTIME)) // MILLISECOND
 
-    def offset(self) -> int:
-        """The time by which the monotonic clock, that of runners, is ahead of moments now."""
-        ahead = time.monotonic_ns() - time.clock_gettime_ns(time.CLOCK_BOOTTIME) - self._ahead
-        return -(-ahead // MILLISECOND)
-
     def wall(self) -> float:
         return time.time()

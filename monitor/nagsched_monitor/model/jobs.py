@@ -17,7 +17,6 @@ class Job(NamedTuple):
     arguments: Sequence[str]
     limit: float
     runner: Optional[str] = None  # the runner elsewhere that runs it; None for a runner of this machine
-    at: Optional[int] = None  # when it begins, in milliseconds of the monotonic clock; None for at once
 
 
 class JobFinished(NamedTuple):
@@ -29,9 +28,6 @@ class JobFinished(NamedTuple):
     output: str
     stderr: str = ""
     is_stuck: bool = False  # whether it was killed and hasn't ended: a `StuckJobEnded` comes when it has
-    # By how many milliseconds it began late, and how many it took, if its runner says so.
-    late: Optional[int] = None
-    took: Optional[int] = None
 
 
 class JobLost(NamedTuple):
@@ -71,15 +67,7 @@ def read_event(job: Job, members: Dict[str, Any]) -> Union[JobFinished, JobLost]
     require(end in ENDS, f"end has to be one of {', '.join(ENDS)}", ValueError)
     if isinstance(code, bool) or not isinstance(code, int) or not 0 <= code <= 255:
         raise ValueError("code has to be a number from 0 to 255")
-    late, took = read_time(members, "late"), read_time(members, "took")
-    return JobFinished(job, str(end), code, read_text(members, "output"), read_text(members, "stderr"), is_stuck is True, late, took)
-
-
-def read_time(members: Dict[str, Any], name: str) -> Optional[int]:
-    value: Optional[int] = members.get(name)
-    if value is not None and (type(value) is not int or value < 0):
-        raise ValueError(f"{name} has to be a number of milliseconds")
-    return value
+    return JobFinished(job, str(end), code, read_text(members, "output"), read_text(members, "stderr"), is_stuck is True)
 
 
 def read_text(members: Dict[str, Any], name: str) -> str:

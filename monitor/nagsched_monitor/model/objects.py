@@ -63,9 +63,7 @@ class Run:
     job: Optional[Job] = None
     forced: bool = False  # as the next try then is
     retry_at: Optional[int] = None  # the moment at which its check is made again if it is abandoned; None for at once
-    # When it began or will, in seconds since 1970 of the wall clock, and how many seconds its plugin took, if its runner says so.
-    began_at: Optional[float] = None
-    took: Optional[float] = None
+    began_at: Optional[float] = None  # when it was taken, in seconds since 1970 of the wall clock
 
 
 class RunTable(Dict[ObjectKey, Run]):
@@ -145,10 +143,9 @@ class ObjectState:
         return now - (self.awaited_since if self.last_result is None else self.last_result) >= freshness
 
 
-# How many objects are enough for one turn. In milliseconds: the longest time that a turn serves, and how long before the first of its checks it begins.
+# How many objects are enough for one turn, and how long one object waits for others, in milliseconds. Objects that are due together wait half as long.
 ENOUGH = 100
 LONGEST_SHARING = 350
-LEAD = 100
 
 
 @dataclass
@@ -156,8 +153,7 @@ class DueQueue:
     """Objects by the times for which they wait."""
 
     _times: Dict[ObjectKey, int] = field(default_factory=dict)
-    # Each waiting object with its time, and times that aren't an object's any more. The objects whose time has come, or will before the next turn, are due: the
-    # names of each part.
+    # Each waiting object with its time, and times that aren't an object's any more. Objects whose time has come are due: the names of each part.
     _heap: List[Tuple[int, ObjectKey]] = field(default_factory=list)
     _due: DefaultDict[int, Set[str]] = field(default_factory=lambda: collections.defaultdict(set))
 
@@ -171,24 +167,29 @@ class DueQueue:
             self._times[key] = time
             heapq.heappush(self._heap, (time, key))
 
-    def due_names(self) -> Mapping[int, Set[str]]:
+    def due_names(self, moment: int) -> DefaultDict[int, Set[str]]:
+        while (first := self.first_time()) is not None and first <= moment:
+            part, name = heapq.heappop(self._heap)[1]
+            self._due[part].add(name)
         return self._due
 
-    def add_due(self, now: int, until: int, most: int) -> Dict[ObjectKey, int]:
-        """The objects that are due from now on, with their times, in this order: those whose time has come, and others up to a moment, as far as all are at
-        most so many."""
-        added: Dict[ObjectKey, int] = {}
-        while (time := self.first_time()) is not None and (time <= now or time <= until and len(added) < most):
-            part, name = key = heapq.heappop(self._heap)[1]
-            self._due[part].add(name)
-            added[key] = time
-        return added
-
     def first_time(self) -> Optional[int]:
-        """The earliest time of the objects that aren't due yet."""
+        """The earliest time after the last moment that was asked for."""
         while self._heap and self._times.get(self._heap[0][1]) != self._heap[0][0]:
             heapq.heappop(self._heap)
         return self._heap[0][0] if self._heap else None
+
+    def shared_time(self, enough: int = ENOUGH) -> Optional[int]:
+        """The time at which enough objects are due for one turn, or at which the last of those is due that share a turn with the first."""
+        first = latest = self.first_time() or 0
+        together: Set[Tuple[int, ObjectKey]] = set()
+        while len(together) < enough and (time := self.first_time()) is not None and time <= latest:
+            together.add(heapq.heappop(self._heap))
+            if time == first:
+                latest = first + LONGEST_SHARING // min(2, len(together))
+        for each in together:
+            heapq.heappush(self._heap, each)
+        return max(together)[0] if together else None
 
 
 class ObjectStates:

@@ -6,11 +6,11 @@ from typing import Callable, Optional, Sequence
 
 from ..core.engine import Engine
 from ..model.clock import Clock
-from ..model.objects import LONGEST_SHARING
+from ..model.objects import ENOUGH, LONGEST_SHARING
 from ..system.poller import FilePoller
 
-# All times are in milliseconds. The least time from one turn to the next, the same for a turn of results alone, and how far off the next turn with checks may
-# be so that results wait for it.
+# All times are in milliseconds. The least time from one turn to the next, the same for a turn of results alone, and how far off a due check may be so that
+# results wait for its turn.
 BETWEEN_TURNS, BEFORE_RESULTS, LONGEST_UNREPORTED = 10, 50, LONGEST_SHARING + 100
 CHORES_EVERY = 1_000
 # The wait after a turn that raised an exception; the number of such turns in a row after which the process ends, and its status then.
@@ -47,7 +47,8 @@ class Loop:
             wanted = begun + AFTER_FAULT
             self._handle_fault()
         if self.status is None:
-            self.wait(begun, wanted)
+            scheduling = self._engine.scheduling
+            self.wait(begun, wanted, scheduling.states.due.shared_time(min(ENOUGH, (scheduling.site.options.slots + 1) // 2)))
 
     def _turn(self, begun: int) -> int:
         waits = [each() for each in self._before]
@@ -69,33 +70,32 @@ class Loop:
             self._log(f"{MOST_FAULTS} turns in a row ended like this: the monitor ends with status {BROKEN}")
             self.status = BROKEN
 
-    def wait(self, begun: int, wanted: int) -> None:
+    def wait(self, begun: int, wanted: int, shared: Optional[int]) -> None:
         """Waits for the next turn, and has files read until then.
 
-        `begun` is the moment at which the last turn began, and `wanted` the one for which the next is wanted, 0 for at once."""
+        `begun` is when the last turn began. `wanted` is the moment at which something is due, 0 for at once. `shared` is when the checks are due that
+        share a turn. All are moments."""
         if wanted == 0:
             self._poller.wait(0)
             return
-        next_turn = next_turn_time(begun, wanted)
+        next_turn = next_turn_time(begun, wanted, shared)
         self._sleep_until(begun + BEFORE_RESULTS if next_turn is None else next_turn)
-        if self._poller.wait(0) or next_turn is not None or not self._poller.wait(self._rest(wanted)):
+        if self._poller.wait(0) or next_turn is not None or not self._poller.wait(wanted - self._clock.moment()):
             return
         now = self._clock.moment()
         self._sleep_until(wanted if wanted <= now + LONGEST_UNREPORTED else now + BEFORE_RESULTS)
         self._poller.wait(0)
 
-    def _rest(self, until: float) -> float:
-        """The time until then, or until a runner elsewhere has to get a job that is due."""
-        return min(until - self._clock.moment(), self._engine.runners.quiet_time())
-
     def _sleep_until(self, at: float) -> None:
-        """Sleeps. Runners elsewhere get the jobs that become due meanwhile."""
-        while (rest := self._rest(at)) < at - self._clock.moment():
-            self._poller.sleep(rest)
-            self._engine.runners.flush()
         self._poller.sleep(at - self._clock.moment())
 
 
-def next_turn_time(begun: float, wanted: float) -> Optional[float]:
-    """The time of the next turn, even if something comes before it; None if `wanted` is so far off that a result has a turn of its own."""
-    return None if wanted > begun + LONGEST_UNREPORTED else max(begun + BETWEEN_TURNS, wanted)
+def next_turn_time(begun: float, wanted: float, shared: Optional[float]) -> Optional[float]:
+    """The time of the next turn, even if something comes before it; None if `wanted` is so far off that a result has a turn of its own.
+
+    Checks that are due wait for the next ones that share their turn. They are due together from then on, as far as their phases allow it."""
+    if wanted > begun + LONGEST_UNREPORTED:
+        return None
+    if shared is not None and wanted <= shared <= wanted + LONGEST_SHARING:
+        wanted = shared
+    return max(begun + BETWEEN_TURNS, wanted)

@@ -1,15 +1,14 @@
 """All runners of a monitor: those of this machine, one for each processor, and one for each runner elsewhere. A process that ends is started again.
 
 No line of a runner ends the monitor."""
-import heapq
-import math
+import collections
 import os
 import resource
 import subprocess
 import time
 from dataclasses import dataclass, field
 from functools import partial
-from typing import Callable, Dict, List, Mapping, Optional, Sequence, Set, Tuple, Union
+from typing import Callable, Deque, Dict, List, Mapping, Optional, Sequence, Set, Tuple, Union
 
 from ..faults import trouble_text
 from ..model.jobs import Event, Job, JobFinished, JobLost, StuckJobEnded, job_members, read_event, read_line
@@ -26,10 +25,7 @@ LONGEST_LINE = 1_048_576
 # The least time from one start of a runner to the next, in seconds. It doubles up to the longest. After a runner that ran that long, it is the first again.
 PAUSE, LONGEST_PAUSE = 1.0, 60.0
 LATE = 10.0  # the longest delay of a plugin's result after its limit, in seconds
-# How many jobs a process of this machine gets before another one is woken. And the time, in seconds, at whose multiples runners here begin jobs: those that
-# begin together go to one process.
-TOGETHER = 8
-TICK = 0.015
+TOGETHER = 8  # how many jobs a process of this machine gets before another one is woken
 
 
 def raise_file_limit() -> int:
@@ -67,9 +63,8 @@ class RunnerPool:
         self._events: List[Event] = []
         self._number = 0
         self.processes: List[RunnerProcess] = []
-        # A heap of the jobs that no process has got yet, each with the time at which it came or is due, and the number of jobs before it.
-        self._waiting: List[Tuple[float, int, Job]] = []
-        self._came = 0
+        # The jobs that no process has got yet, each with the time at which it came.
+        self._waiting: Deque[Tuple[Job, float]] = collections.deque()
         self._cannot_start = False
         self._pause, self._not_before = PAUSE, 0.0
         self._start_missing()
@@ -97,13 +92,7 @@ class RunnerPool:
             self._cannot_start, self._not_before = True, self._clock() + PAUSE
 
     def start(self, job: Job) -> None:
-        heapq.heappush(self._waiting, (max(self._clock(), (job.at or 0) / 1000), self._came, job))
-        self._came += 1
-
-    def next_start(self) -> float:
-        """When a flush passes on the first waiting job. Only jobs for other machines wait until they are due: runners here have clocks."""
-        has_room = self._slots is not None and any(len(process.jobs) < self._slots for process in self.processes)
-        return self._waiting[0][0] if self._waiting and has_room else math.inf
+        self._waiting.append((job, self._clock()))
 
     def flush(self) -> None:
         """Passes on the jobs for which there is room, with one write for each process."""
@@ -112,17 +101,15 @@ class RunnerPool:
         now, together = self._clock(), TOGETHER if self._slots is None else 1
         while self._waiting and self.processes:
             process = min(self.processes, key=lambda each: len(each.jobs))
-            if self._slots is not None and (len(process.jobs) >= self._slots or self._waiting[0][0] > now):
+            if self._slots is not None and len(process.jobs) >= self._slots:
                 break
-            until, most = max(now, -(-self._waiting[0][0] // TICK) * TICK), len(process.jobs) + together
-            while self._waiting and self._waiting[0][0] <= until and len(process.jobs) < most:
-                job = heapq.heappop(self._waiting)[-1]
+            for _ in range(min(together, len(self._waiting))):
+                job = self._waiting.popleft()[0]
                 self._number += 1
                 process.jobs[self._number] = job, now + job.limit + LATE + self._wait
-                at = b"" if job.at is None or self._slots is not None else b'"at":%d,' % job.at
-                process.unsent += b'{"job":%d,%s%s\n' % (self._number, at, job_members(tuple(job.arguments), job.limit))
-        while self._slots is not None and self._waiting and now - self._waiting[0][0] >= self._wait:
-            self._add_event(JobLost(heapq.heappop(self._waiting)[-1], f"the runner {self._name} didn't take it"))
+                process.unsent += b'{"job":%d,%s\n' % (self._number, job_members(tuple(job.arguments), job.limit))
+        while self._slots is not None and self._waiting and now - self._waiting[0][1] >= self._wait:
+            self._add_event(JobLost(self._waiting.popleft()[0], f"the runner {self._name} didn't take it"))
         for process in [each for each in self.processes if each.unsent]:
             try:
                 write_ready(process.reads_from, process.unsent)
@@ -191,23 +178,24 @@ class RunnerPool:
             if any(job is each for each, _ in process.jobs.values()):
                 self._log(f"{self._title} gave no result in time: it is killed, and {len(process.jobs)} checks with it")
                 self._close_process(process)
-        if any(job is each for *_, each in self._waiting):
-            self._waiting = sorted(waiting for waiting in self._waiting if waiting[-1] is not job)
-            self._events.append(JobLost(job, "its runner can't be started"))
+        for waiting in list(self._waiting):
+            if waiting[0] is job:
+                self._waiting.remove(waiting)
+                self._events.append(JobLost(job, "its runner can't be started"))
 
     def close(self) -> None:
         """Ends all processes; their jobs, and the jobs that wait, are lost."""
         for process in list(self.processes):
             self._close_process(process)
-        self._events += [JobLost(job) for *_, job in self._waiting]
-        self._waiting = []
+        while self._waiting:
+            self._events.append(JobLost(self._waiting.popleft()[0]))
 
     def events(self) -> List[Event]:
         events, self._events = self._events, []
         return events
 
     def jobs(self) -> List[Job]:
-        return [job for process in self.processes for job, _ in process.jobs.values()] + [job for *_, job in self._waiting]
+        return [job for process in self.processes for job, _ in process.jobs.values()] + [job for job, _ in self._waiting]
 
     def process_counts(self) -> Dict[str, int]:
         now = self._clock()
@@ -220,7 +208,7 @@ class RunnerPools:
     def __init__(self, count: int, log: Callable[[str], None], poller: FilePoller, clock: Callable[[], float] = time.monotonic,
                  files: Callable[[], Sequence[int]] = tuple) -> None:
         """`files` stay open until the plugins of this machine are gone, also if the monitor is killed."""
-        self._pool, self._clock = partial(RunnerPool, log=log, poller=poller, clock=clock), clock
+        self._pool = partial(RunnerPool, log=log, poller=poller, clock=clock)
         self._pools: Dict[str, RunnerPool] = {LOCAL: self._pool(LOCAL, runner_command(), count, None, 0.0, files=files)}
         self._remotes: Dict[str, Remote] = {}
         self._events: List[Event] = []  # the last events of pools that were removed
@@ -247,10 +235,6 @@ class RunnerPools:
     def flush(self) -> None:
         for pool in self._pools.values():
             pool.flush()
-
-    def quiet_time(self) -> float:
-        """How long no flush is needed for a job that becomes due, in milliseconds."""
-        return 1000 * (min(pool.next_start() for pool in self._pools.values()) - self._clock())
 
     def job_ids(self) -> Set[int]:
         """The identities of the jobs that runners have, or will get."""

@@ -68,7 +68,6 @@ class Site:
     mirrors: Mapping[int, AbstractSet[str]]  # the names of the mirrors of each part that has some
     runners: Mapping[str, Remote]
     warnings: Sequence[str]  # what may not be as it was meant
-    limit: int  # the most checks that run at once, by the slots and by the setups
     remarks: Sequence[Remark] = ()
 
 
@@ -99,10 +98,9 @@ def read_site(folder: pathlib.Path, program: str) -> Site:
         command, period, runner = commands.get(name), period_of.get(name), runner_of.get(name)
         objects[name] = definition._replace(command=command, period=period, runner=runner, passive_only=only, freshness=freshness)
         test_command(objects[name])
-    limits = [setup.get("options", {}).get("max_concurrent_checks", 0) for setup in documents.values()]
     with_freshness = [name for name, definition in objects.items() if definition.freshness is not None]
     return Site(setups, objects, Periods(periods, options.zone), options, children, with_freshness, mirrors, runners,
-                retry_warnings(documents, objects), min([options.slots, *filter(None, limits)]), remarks)
+                retry_warnings(documents, objects), remarks)
 
 
 def setup_files(folder: pathlib.Path) -> List[pathlib.Path]:

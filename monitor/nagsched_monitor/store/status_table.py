@@ -8,7 +8,7 @@ from typing import Dict, List, Mapping, Optional, Tuple
 
 from ..model.clock import Clock
 from ..model.objects import FIRST_TIME, ObjectState, Run, StateHistory
-from ..model.protocol import Answer, Call, Report, Standing, Take, Taken
+from ..model.protocol import Answer, Call, Report, Standing, Taken
 from .rows import StoredStanding
 from .store import Store, Write, delete, store_standings
 
@@ -49,15 +49,14 @@ class StandingTable:
     def apply_answer(self, obj: ObjectState, call: Call, answer: Answer, ended: Optional[Run]) -> None:
         """Takes in the changes of an object from an answer, and marks the object. `ended` is its run before."""
         past = obj.history
-        if isinstance(answer, Taken) and isinstance(call, Take) and obj.run is not None:
-            obj.run.began_at = self._clock.wall() + (call.now - self._clock.moment()) / 1000
+        if isinstance(answer, Taken) and obj.run is not None:
+            obj.run.began_at = self._clock.wall()
         elif isinstance(call, Report) and isinstance(answer, Standing):
             now = self._clock.wall()
             begun = now if ended is None or ended.began_at is None else ended.began_at
-            past.last_check, past.took = begun, max(0.0, now - begun) if ended is None or ended.took is None else ended.took
+            past.last_check, past.took = begun, max(0.0, now - begun)
             past.note(answer.state, answer.kind, now)
-        moment = self._clock.moment()
-        self._marked.setdefault(obj.name, (obj, max(moment, call.now) if isinstance(call, Take) else moment))
+        self._marked.setdefault(obj.name, (obj, self._clock.moment()))
 
     def write_soon(self, others: Mapping[str, ObjectState]) -> None:
         """Has all marked objects written with the next calls, and others whose states are known: in the order of their checks, which new rows keep."""
@@ -86,7 +85,7 @@ class StandingTable:
 
 
 def has_just_begun(run: Optional[Run], wall: float) -> bool:
-    return run is not None and run.began_at is not None and abs(wall - run.began_at) * 1000 < LONGEST
+    return run is not None and run.began_at is not None and 0 <= (wall - run.began_at) * 1000 < LONGEST
 
 
 def is_settled(standing: Standing, past: StateHistory) -> bool:
