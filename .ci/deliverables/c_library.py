@@ -37,6 +37,7 @@ DEFINITIONS = [
     TOP / "crates" / "setup_model" / "specs" / "LoadError.antt",
     TOP / "crates" / "setup_model" / "specs" / "Place.antt",
     TOP / "crates" / "check_states" / "specs" / "Numbers.antt",
+    TOP / "crates" / "check_sched" / "specs" / "ReplyTable.antt",
     TOP / "crates" / "nagsched_handles" / "specs" / "Structs.antt",
     TOP / "crates" / "nagsched_handles" / "specs" / "SavedFaults.antt",
 ]
@@ -49,7 +50,7 @@ ENUMERATIONS = {
     "nagsched_state": ("State", "NAGSCHED_STATE_", "state_number"),
     "nagsched_kind": ("Kind", "NAGSCHED_", "kind_number"),
     "nagsched_call_kind": ("CallKind", "NAGSCHED_CALL_", "c_call"),
-    "nagsched_reply_kind": ("ReplyKind", "NAGSCHED_REPLY_", "c_reply"),
+    "nagsched_reply_kind": ("ReplyKind", "NAGSCHED_REPLY_", "row_of", "refusal_row"),
     "nagsched_refusal_kind": ("RefusalKind", "NAGSCHED_REFUSAL_", "error_row", "c_fault"),
     "nagsched_part": ("Part", "NAGSCHED_PART_", "part_number"),
 }
@@ -106,7 +107,7 @@ def defined_numbers():
     text = "\n".join(definition.read_text(encoding="utf-8") for definition in DEFINITIONS)
     kinds = constants(KINDS)
     found = collections.defaultdict(dict)
-    value = r"(?:\w*_struct |row |record \{\s+kind = )?(\d+|[A-Z]\w+)"
+    value = r"(?:\w*_struct |row |record \{\s+(?:kind|number) = )?(\d+|[A-Z]\w+)"
     for function, name, number in re.findall(rf"^(\w+) \(?(?:reply\.Refused )?\w+\.(\w+)\b[^=\n]*\)? = {value}", text, re.M):
         if number.isdigit() or number in kinds:
             found[function][re.sub(r"(?<!^)(?=[A-Z])", "_", name).upper()] = int(kinds.get(number, number))
