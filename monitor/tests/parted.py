@@ -7,7 +7,7 @@ from unittest import mock
 
 from nagsched_monitor.model.protocol import Answer, Call, Report, Standing, Status
 from nagsched_monitor.scheduler.mirroring import Mirrors, PlannedCall
-from nagsched_monitor.scheduler.scheduling import ObjectAnswer
+from nagsched_monitor.scheduler.plans import ObjectAnswer
 from nagsched_monitor.site.site import read_site
 from nagsched_monitor.store.rows import StoredChange
 from nagsched_monitor.store.store import Write

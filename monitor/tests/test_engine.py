@@ -3,7 +3,7 @@ import collections
 from typing import Dict, Tuple
 
 from nagsched_monitor.model.protocol import Take
-from nagsched_monitor.scheduler.scheduling import Plan
+from nagsched_monitor.scheduler.plans import Plan
 
 from .simulated import BEGIN, SimulatedClock, SimulatedMonitor, SiteTest, fine, host, service
 

@@ -9,7 +9,8 @@ from typing import Callable, Dict, List, Mapping, NamedTuple, Optional, Sequence
 from ..model.clock import Clock
 from ..model.objects import HOST_FIRST, LONGEST_SHARING, RESULT_FIRST, ObjectDefinition, ObjectState
 from ..model.protocol import NO_PROBLEM, Enable, Reschedule, Standing, Take
-from ..scheduler.scheduling import Plan, Scheduling
+from ..scheduler.plans import Plan
+from ..scheduler.scheduling import Scheduling
 from .passive import PassiveResults
 
 WINDOW = 15_000  # the time within which overdue checks are made, in milliseconds, unless their interval is shorter

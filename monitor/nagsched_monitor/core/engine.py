@@ -11,7 +11,8 @@ from ..model.clock import Clock
 from ..model.objects import ObjectState, Owner
 from ..model.protocol import Abandon, Call, Freed, PutOff, Refused, Report, Reschedule, Standing, Taken, call_line
 from ..run.runners import RunnerPools
-from ..scheduler.scheduling import ObjectAnswer, Plan, Scheduling
+from ..scheduler.plans import ObjectAnswer, Plan
+from ..scheduler.scheduling import Scheduling
 from ..site.site import Site
 from ..store.counters import Counters
 from ..store.store import Store, store_figures

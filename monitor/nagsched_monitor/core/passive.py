@@ -7,7 +7,8 @@ from ..faults import NotStored
 from ..model.objects import RESULT_FIRST, ObjectState, Owner
 from ..model.protocol import Report, Take
 from ..scheduler.mirroring import forced_take
-from ..scheduler.scheduling import Plan, Scheduling
+from ..scheduler.plans import Plan
+from ..scheduler.scheduling import Scheduling
 from ..store.rows import StoredResult
 from ..store.store import Store, Write, delete, insert
 

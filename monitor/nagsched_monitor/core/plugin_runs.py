@@ -10,7 +10,8 @@ from ..model.protocol import GREATEST_CODE, Abandon, Report, Reschedule
 from ..model.text import plain_text
 from ..run.runners import RunnerPools
 from ..scheduler.mirroring import PlannedCall
-from ..scheduler.scheduling import Plan, Scheduling
+from ..scheduler.plans import Plan
+from ..scheduler.scheduling import Scheduling
 from ..store.counters import Counters
 from ..system.log import RepeatedLines
 

@@ -19,7 +19,8 @@ from ..model.protocol import GREATEST, Enable, Reschedule
 from ..model.remarks import Remark
 from ..model.text import MOST_OUTPUT_BYTES, first_line, plain_text
 from ..scheduler.mirroring import PlannedCall
-from ..scheduler.scheduling import Plan, Scheduling
+from ..scheduler.plans import Plan
+from ..scheduler.scheduling import Scheduling
 from ..site.json_files import ANY, FLAG, TEXT, Form, Forms, test_members, whole
 from ..store.rows import StoredChange, StoredResult
 from ..store.remark_table import end_remark, store_new_remark

@@ -2,8 +2,7 @@
 import json
 import os
 from concurrent.futures import ThreadPoolExecutor
-from dataclasses import dataclass, field
-from typing import AbstractSet, Callable, Dict, List, Mapping, NamedTuple, Optional, Sequence, Set
+from typing import AbstractSet, Callable, Dict, List, Mapping, Optional, Sequence
 
 from ..faults import ConversationEnded, NotStored
 from ..model.clock import Clock
@@ -17,36 +16,11 @@ from ..store.remark_table import RemarkTable
 from ..store.status_table import StandingTable
 from ..store.store import Store, Write, store_calls, store_change
 from .mirroring import Mirrors, PlannedCall, carry_over, merge_states
+from .plans import ObjectAnswer
 from .schedulers import Conversation, ConversationFactory, PartScheduler
 
 LONG_REPLAY = 5_000  # the number of calls made again after which a part is saved at once
 STANDINGS_IN_TURN = 1_000  # the most standings that are written with the calls of a turn
-
-
-@dataclass
-class Plan:
-    """The plan of a turn: one list of calls, with everything that is written with them. Then the actions after all of it is stored, and after the calls were
-    answered."""
-
-    calls: List[PlannedCall] = field(default_factory=list)
-    writes: List[Write] = field(default_factory=list)
-    then: List[Callable[[], None]] = field(default_factory=list)
-    last: List[Callable[[], None]] = field(default_factory=list)
-    # Plugins that end with this plan, and the objects whose next checks it sets to now, and to later.
-    freed: int = 0
-    at_once: Set[str] = field(default_factory=set)
-    later: Set[str] = field(default_factory=set)
-    # The objects whose next checks are set by requests: nothing else sets them in this turn.
-    requested: Set[str] = field(default_factory=set)
-
-
-class ObjectAnswer(NamedTuple):
-    """An answer with the object that it is about, and the standing that the object had before."""
-
-    call: Call
-    answer: Answer
-    object: Optional[ObjectState]
-    before: Optional[Standing]
 
 
 class Scheduling:
